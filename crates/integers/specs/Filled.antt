@@ -1,0 +1,53 @@
+-- The list of f 0 .. f (n - 1), and a list that a loop fills with it from the front.
+use mathlib.Core.Path.{_≡_, refl, sym, ap, _∙_}
+use mathlib.Core.List.{List, [], _∷_}
+use Prim.Native.Nat.{ℕ, zero, suc, _+_, _≤_, _<_}
+use native.Mathlib.Nat.{le-of-suc-le-suc, not-suc-le-zero, le-refl, le-of-eq}
+use native.Mathlib.Omega.{arith}
+use lib.ListN.{length, getD, set, take, length-set}
+use lib.Seq.{ext-getD, getD-set-same, getD-set-other, getD-take, take-all, length-take-le}
+use borrow.Author.Count.{below-none, below-more}
+
+abbrev pub tabulate {ℓ} : {A : Type ℓ} → ℕ → (ℕ → A) → List A
+tabulate zero f = []
+tabulate (suc n) f = f 0 ∷ tabulate n (λ k. f (suc k))
+
+-- n elements, of which those below i are done: each is f of its index
+pub record Filled {A : Type 0} (d : A) (n : ℕ) (f : ℕ → A) (i : ℕ) (l : List A) : Type 0 where
+  pub len : length l ≡ n
+  pub each : (k : ℕ) → k < i → getD l k d ≡ f k
+
+module _ {ℓ} {A : Type ℓ} where
+  pub length-tabulate : (n : ℕ) (f : ℕ → A) → length (tabulate n f) ≡ n
+  length-tabulate zero f = refl
+  length-tabulate (suc n) f = ap suc (length-tabulate n (λ k. f (suc k)))
+
+  pub getD-tabulate : (n : ℕ) (f : ℕ → A) (d : A) (k : ℕ) → k < n → getD (tabulate n f) k d ≡ f k
+  getD-tabulate zero f d k h = absurd (not-suc-le-zero h)
+  getD-tabulate (suc n) f d zero h = refl
+  getD-tabulate (suc n) f d (suc k) h = getD-tabulate n (λ j. f (suc j)) d k (le-of-suc-le-suc h)
+
+module _ {A : Type 0} {d : A} {n : ℕ} {f : ℕ → A} where
+  -- before the loop
+  pub filled-none : {l : List A} → length l ≡ n → Filled d n f 0 l
+  filled-none e = record { len = e; each = below-none _ }
+
+  -- a turn
+  pub filled-more : {i : ℕ} {l : List A} {v : A} → i < n → Filled d n f i l → v ≡ f i → Filled d n f (i + 1) (set l i v)
+  filled-more {i} {l} {v} h F e = record {
+    len = length-set l i v ∙ F .len;
+    each = below-more (λ k. getD (set l i v) k d ≡ f k) i
+        (λ k kl. getD-set-other l i k v d (omega arith) ∙ F .each k kl)
+        (getD-set-same l i v d (omega (arith, F .len)) ∙ e);
+  }
+
+  -- after it: the first m elements, where the rest of the array is not used
+  pub filled-first : {m i : ℕ} {l : List A} → m ≤ i → m ≤ n → Filled d n f i l → take m l ≡ tabulate m f
+  filled-first {m} {i} {l} h k F =
+      let e : length (take m l) ≡ m = length-take-le m l (omega (arith, F .len)) in
+      ext-getD d (take m l) (tabulate m f) (e ∙ sym (length-tabulate m f))
+      (λ j g. getD-take m l j d (omega arith) ∙ F .each j (omega arith) ∙ sym (getD-tabulate m f d j (omega arith)))
+
+  -- and all of them
+  pub filled-all : {i : ℕ} {l : List A} → n ≤ i → Filled d n f i l → l ≡ tabulate n f
+  filled-all {i} {l} h F = sym (take-all n l (le-of-eq (F .len))) ∙ filled-first h (le-refl n) F

@@ -1,0 +1,143 @@
+-- What an accepted step and an accepted fresh start have passed, and what an accepted step leads to.
+use mathlib.Core.Path.{_≡_, refl, sym, _∙_, ap}
+use mathlib.Core.List.{List, [], _∷_, _++_}
+use Prim.Native.Nat.{ℕ, zero, suc, _+_, _*_, _≤_}
+use lib.Dec.{leb}
+use lib.IntN.{ℤ, pos}
+use lib.ListN.{length, drop, replicate, length-replicate}
+use mir.Facts.{and-yes, T-not-not, leb-yes, ltb-no, eqb-yes}
+use Rattle.model.specs.Ranges.{between}
+use Rattle.model.specs.Refusal.{Rule, accepted, refused}
+use Rattle.model.specs.Setup.{L, M, S, m, p, e, points, placeOk, lengthOk, setupRules}
+use Rattle.model.specs.State.{State, Lent, byTurn, stateOf, put, Neck, Forces}
+use Rattle.model.specs.Step.{workedStep, nextState, buffersRule, callRules, resultRules, stepRules, frame, StepResult, step}
+use Rattle.model.specs.Start.{startRules, StartResult, start, fresh}
+use Rattle.model.specs.declared.Setup.{Setup}
+use Rattle.model.specs.declared.Frame.{Frame}
+use Rattle.laws.specs.Promises.{Passed}
+use Rattle.laws.specs.Refusals.{fails, all-yes, by-table, never-both, accepted-by}
+use Rattle.laws.specs.Strings.{_spans_}
+
+-- ---- a setup
+
+pub record Sound (s : Setup) : Type 0 where
+  pub stable : L s + 4 * M s + 2 * S s ≤ 4096
+  pub massive : 1 ≤ m s
+  pub first : 1 ≤ p s
+  pub last : p s ≤ points s
+
+pub sound : (s : Setup) (rules : List Rule) → Passed (setupRules s ++ rules) → Sound s
+unfolding setupRules placeOk between
+sound s rules h =
+    let table = setupRules s ++ rules in
+    let places = all-yes (placeOk s) (p s ∷ e s ∷ s .«bridge_place» ∷ s .«neck_place» ∷ []) (fails 4 table h) in
+    let place = and-yes (leb 1 (p s)) (leb (p s) (points s)) (places .0) in
+    let mass = and-yes (leb 1 (m s)) (leb (m s) 1048576) (T-not-not (between 1 (m s) 1048576) (fails 5 table h)) in
+    record { stable = ltb-no (fails 3 table h); massive = leb-yes (mass .0); first = leb-yes (place .0); last = leb-yes (place .1) }
+
+-- ---- a setup with buffers of its length, as rules 1 to 6 leave it
+
+pub record Examined (s : Setup) (neck : Neck) (x : State) : Type 0 where
+  pub setup : Sound s
+  pub heights : neck .heights spans points s
+  pub stiffness : length (neck .stiffness) ≡ points s
+  pub newer : x .newer spans points s
+  pub older : x .older spans points s
+  pub contact : x .contact spans points s
+
+pub examined : (s : Setup) (neck : Neck) (x : State) (rules : List Rule) → Passed (setupRules s ++ buffersRule s neck x ∷ rules) → Examined s neck x
+unfolding setupRules lengthOk
+examined s neck x rules h =
+    let sizes = all-yes (lengthOk s) (length (neck .heights) ∷ length (neck .stiffness) ∷ length (x .newer) ∷ length (x .older) ∷ length (x .contact) ∷ []) (fails 6 (setupRules s ++ buffersRule s neck x ∷ rules) h) in
+    record {
+      setup = sound s (buffersRule s neck x ∷ rules) h;
+      heights = record { long = eqb-yes (sizes .0) };
+      stiffness = eqb-yes (sizes .1 .0);
+      newer = record { long = eqb-yes (sizes .1 .1 .0) };
+      older = record { long = eqb-yes (sizes .1 .1 .1 .0) };
+      contact = record { long = eqb-yes (sizes .1 .1 .1 .1 .0) };
+    }
+
+-- ---- a step
+
+-- from the state x with the forces F to the state y
+pub record AcceptedStep (s : Setup) (neck : Neck) (x : State) (F : Forces) (y : State) : Type 0 where
+  pub passed : Passed (stepRules s neck x F)
+  pub examined : Examined s neck x
+  pub result : y ≡ nextState (workedStep s neck x F)
+
+-- what is put is what the turn then selects
+state-put : (v : Lent) (x : State) → stateOf v .newer ≡ x .older → stateOf (put v x) ≡ x
+unfolding stateOf put
+state-put v x e = go (v .turn) e
+  where
+    go : (n : ℕ) → byTurn n (v .first) (v .second) ≡ x .older
+        → stateOf (record { first = byTurn n (v .first) (x .newer); second = byTurn n (x .newer) (v .second); contact = x .contact; turn = byTurn n 1 0; finger = x .finger }) ≡ x
+    go zero e = λ i. record { newer = x .newer; older = e i; contact = x .contact; finger = x .finger }
+    go (suc n) e = λ i. record { newer = x .newer; older = e i; contact = x .contact; finger = x .finger }
+
+module _ (s : Setup) (neck : Neck) (v : Lent) (F : Forces) where
+  -- the state that it leads to
+  abbrev pub stateMade : State
+  stateMade = nextState (workedStep s neck (stateOf v) F)
+
+  -- its result, where it is accepted
+  abbrev pub resultMade : StepResult
+  resultMade = record { answer = accepted (frame s stateMade); lent = put v stateMade }
+
+  pub step-accepted : (f : Frame) → step s neck v F .answer ≡ accepted f → Passed (stepRules s neck (stateOf v) F) × (step s neck v F ≡ resultMade)
+  unfolding step stepRules callRules resultRules setupRules
+  step-accepted = accepted-by (λ r. r .answer) (stepRules s neck (stateOf v) F) tt resultMade _ (λ n. refl)
+
+  pub accepted-step : (f : Frame) → step s neck v F .answer ≡ accepted f → AcceptedStep s neck (stateOf v) F (stateOf (step s neck v F .lent))
+  unfolding stepRules callRules setupRules nextState workedStep
+  accepted-step f e =
+      let (h, r) = step-accepted f e in
+      record { passed = h; examined = examined s neck (stateOf v) (drop 6 (stepRules s neck (stateOf v) F)) h; result = ap (λ q. stateOf (q .lent)) r ∙ state-put v stateMade refl }
+
+-- a refused step leaves what was lent
+pub step-refused : (s : Setup) (neck : Neck) (v : Lent) (F : Forces) (n : ℕ) → step s neck v F .answer ≡ refused n → step s neck v F .lent ≡ v
+unfolding step stepRules callRules resultRules setupRules
+step-refused s neck v F = by-table (stepRules s neck (stateOf v) F) tt (resultMade s neck v F) _ (λ (r : StepResult). (n : ℕ) → r .answer ≡ refused n → r .lent ≡ v) (λ h n q. never-both q refl) (λ k h n q. refl)
+
+-- the turn of an accepted step is flipped
+pub step-turn : (s : Setup) (neck : Neck) (v : Lent) (F : Forces) (f : Frame) → step s neck v F .answer ≡ accepted f → step s neck v F .lent .turn ≡ byTurn (v .turn) 1 0
+unfolding put
+step-turn s neck v F f h = ap (λ r. r .lent .turn) (step-accepted s neck v F f h .1)
+
+-- ---- a voice whose strings have the setup's length
+
+pub record Fitting (s : Setup) (v : Lent) : Type 0 where
+  pub first : v .first spans points s
+  pub second : v .second spans points s
+
+module _ {s : Setup} {v : Lent} (h : Fitting s v) where
+  pub spans-newer : stateOf v .newer spans points s
+  unfolding stateOf
+  spans-newer = go (v .turn)
+    where
+      go : (n : ℕ) → byTurn n (v .first) (v .second) spans points s
+      go zero = h .first
+      go (suc n) = h .second
+
+  pub spans-older : stateOf v .older spans points s
+  unfolding stateOf
+  spans-older = go (v .turn)
+    where
+      go : (n : ℕ) → byTurn n (v .second) (v .first) spans points s
+      go zero = h .second
+      go (suc n) = h .first
+
+-- ---- a fresh start
+
+module _ (s : Setup) (first second contact : List ℤ) (w w' : ℤ) (v : Lent) where
+  abbrev pub Starts : Type 0
+  Starts = start s first second contact w w' ≡ record { answer = accepted record { turn = v .turn; finger = v .finger }; first = v .first; second = v .second; contact = v .contact }
+
+  pub start-accepted : Starts → Sound s × Fitting s v
+  unfolding start startRules setupRules fresh
+  start-accepted q =
+      let rules = startRules s first second contact w w' in
+      let (h, r) = accepted-by (λ (r : StartResult). r .answer) rules tt _ _ (λ n. refl) _ (ap (λ r. r .answer) q) in
+      let zeros : replicate (points s) (pos 0) spans points s = record { long = length-replicate (points s) (pos 0) } in
+      (sound s (drop 5 rules) h, record { first = rw (sym (ap (λ r. r .first) q) ∙ ap (λ r. r .first) r) zeros; second = rw (sym (ap (λ r. r .second) q) ∙ ap (λ r. r .second) r) zeros })

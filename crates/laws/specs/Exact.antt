@@ -1,0 +1,110 @@
+-- Frames and readings lose nothing: a displacement in range, or a depth above 0, is divided by 1,048,576 exactly.
+use mathlib.Core.Path.{_≡_, refl, ap}
+use mathlib.Core.Bool.{Bool, true, false, cond}
+use mathlib.Core.List.{List, [], _∷_}
+use Prim.Native.Nat.{ℕ, zero, suc, _≤_}
+use native.Mathlib.Omega.{arith}
+use lib.Dec.{T}
+use lib.IntN.{ℤ, pos, negℤ, natAbs, _-ℤ_}
+use lib.Signed.{_<ℤ_, leZ, ltZ, leZ-yes, ltZ-yes, ltZ-no}
+use lib.Ieee.{Format, binary32, binary64}
+use mir.Facts.{and-yes, T-not-not}
+use Rattle.integers.specs.Solve.{_⊖_, ⊝_, #_}
+use Rattle.integers.specs.Derive.{_≼_, _≺_, _⊢_, times, deduce}
+use Rattle.integers.specs.Order.{≤-pos, pos-≤, natAbs-≤}
+use Rattle.integers.specs.Size.{size-between}
+use Rattle.integers.specs.Floats.{negative, fraction-exact}
+use Rattle.model.specs.Ranges.{inside, all, heightOk, displacementOk}
+use Rattle.model.specs.Refusal.{Rule, firstOf, unless, accepted}
+use Rattle.model.specs.Setup.{setupRules}
+use Rattle.model.specs.Differences.{at}
+use Rattle.model.specs.State.{Lent, newest, stateOf, Neck, Forces}
+use Rattle.model.specs.Step.{callRules, resultRules, stepRules, frame, step}
+use Rattle.model.specs.Fraction.{fraction, Holds}
+use Rattle.model.specs.Reading.{readingRules, reading}
+use Rattle.model.specs.declared.Setup.{Setup}
+use Rattle.model.specs.declared.Frame.{Frame}
+use Rattle.model.specs.declared.Reading.{Reading}
+use Rattle.model.specs.declared.Reading.the-variants.{Free, Pressed, Refused}
+use Rattle.laws.specs.Promises.{Passed, Frames, Reads, Readings}
+use Rattle.laws.specs.Refusals.{passed, fails, at-all}
+use Rattle.laws.specs.Accepted.{stateMade, step-accepted, accepted-step}
+use Rattle.laws.specs.Sizes.{inside-within}
+
+pub fraction-holds : (f : Format) (z : ℤ) → natAbs z ≤ 1048576 → Holds (fraction f z) z
+unfolding fraction
+fraction-holds f z h = fraction-exact f (negative z) (natAbs z) h
+
+-- every displacement of a string in range
+string-≤ : (u : List ℤ) → T (all displacementOk u) → (i : ℕ) → natAbs (at u i) ≤ 1048576
+unfolding displacementOk inside
+string-≤ u t i = inside-within 1048576 (at u i) (at-all displacementOk u tt t i) .size
+
+-- ---- a frame
+
+-- the new displacements of an accepted step are in range
+pub accepted-range : (s : Setup) (neck : Neck) (v : Lent) (F : Forces) (f : Frame) → step s neck v F .answer ≡ accepted f → (i : ℕ) → natAbs (at (stateMade s neck v F .newer) i) ≤ 1048576
+unfolding stepRules callRules resultRules setupRules
+accepted-range s neck v F f q =
+    let y = stateMade s neck v F in
+    let h = step-accepted s neck v F f q .0 in
+    string-≤ (y .newer) (and-yes (displacementOk (y .finger .newer)) (all displacementOk (y .newer)) (T-not-not (all displacementOk (y .finger .newer ∷ y .newer)) (fails 13 (stepRules s neck (stateOf v) F) h)) .1)
+
+pub frames : Frames
+unfolding frame
+frames s neck v F f q =
+    let y = stateMade s neck v F in
+    let r = step-accepted s neck v F f q .1 in
+    let made : f ≡ frame s y = cc (ap (λ r. r .answer) r) in
+    let range = accepted-range s neck v F f q in
+    rw (accepted-step s neck v F f q .result, made) (fraction-holds binary32 (at (y .newer) (s .«bridge_place»)) (range (s .«bridge_place»)), fraction-holds binary32 (at (y .newer) (s .«neck_place»)) (range (s .«neck_place»)))
+
+-- ---- a reading
+
+-- a depth above 0, between a height of the neck and a displacement
+depth-≤ : (h u : ℤ) → T (heightOk h) → natAbs u ≤ 1048576 → pos 0 <ℤ (h -ℤ u) → natAbs (h -ℤ u) ≤ 1048576
+unfolding heightOk inside
+depth-≤ h u b r d = ≤-pos (size-between (deduce 2 (λ h u. times 1 (# 0 ≺ h ⊖ u) ∷ [] ⊢ ⊝ # 1048576 ≼ h ⊖ u) tt h u d)
+    (deduce 3 (λ h u n. times 1 (h ≼ # 0) ∷ times 1 (⊝ n ≼ u) ∷ times 1 (n ≼ # 1048576) ∷ [] ⊢ h ⊖ u ≼ # 1048576) tt h u (pos (natAbs u)) (leZ-yes (and-yes (leZ (negℤ (pos 1048576)) h) (leZ h (pos 0)) b .1)) (natAbs-≤ u) (pos-≤ r)))
+
+module _ (s : Setup) (heights first second : List ℤ) (turn i : ℕ) where
+  string : List ℤ
+  string = newest turn first second
+
+  u : ℤ
+  u = at string i
+
+  d : ℤ
+  d = at heights i -ℤ u
+
+  rules : List Rule
+  rules = readingRules s heights first second turn i
+
+  value : Bool → Reading
+  value b = cond b (Pressed (fraction binary64 u) (fraction binary64 d)) (Free (fraction binary64 u))
+
+  values-hold : Passed rules → (b : Bool) → ltZ (pos 0) d ≡ b → Reads u d 0 (value b)
+  unfolding string u d rules value readingRules setupRules heightOk inside
+  values-hold h b q = go b q
+    where
+      range : natAbs u ≤ 1048576
+      range = string-≤ string (T-not-not (all displacementOk string) (fails 11 rules h)) i
+
+      height : T (heightOk (at heights i))
+      height = at-all heightOk heights tt (T-not-not (all heightOk heights) (fails 7 rules h)) i
+
+      go : (b : Bool) → ltZ (pos 0) d ≡ b → Reads u d 0 (value b)
+      go true q = let l : pos 0 <ℤ d = ltZ-yes (rw q tt) in (refl, l, fraction-holds binary64 u range, fraction-holds binary64 d (depth-≤ (at heights i) u height range l))
+      go false q = (refl, ltZ-no (rw q tt), fraction-holds binary64 u range)
+
+  holds : Reads u d (firstOf rules) (reading s heights first second turn i)
+  unfolding reading string u d rules value readingRules setupRules
+  holds = go (firstOf rules) refl
+    where
+      go : (n : ℕ) → firstOf rules ≡ n → Reads u d n (unless n (value (ltZ (pos 0) d)) Refused)
+      go zero q = values-hold (passed rules tt q) (ltZ (pos 0) d) refl
+      go (suc n) q = (omega arith, refl)
+
+pub readings : Readings
+unfolding string u d rules
+readings = holds

@@ -1,0 +1,21 @@
+-- Why document 01's voice is safe: theorems about the model. `Promises` has the statements, `Demands` their proofs.
+pub mod Promises
+pub mod Refusals
+pub mod InRange
+pub mod Strings
+pub mod Nearest
+pub mod System
+pub mod Gradient
+pub mod Accepted
+pub mod Moves
+pub mod Limits
+pub mod Balance
+pub mod Positive
+pub mod Run
+pub mod Solved
+pub mod Sizes
+pub mod MoveSizes
+pub mod Ready
+pub mod Block
+pub mod Exact
+pub mod Demands

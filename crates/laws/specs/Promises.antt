@@ -1,0 +1,225 @@
+-- What is promised of the model, as statements only, in document 01's terms. `Demands` proves each; the other files lead there.
+use mathlib.Core.Path.{_≡_}
+use mathlib.Core.Bool.{true, not}
+use mathlib.Core.Logic.{_≢_, _⊎_}
+use mathlib.Core.List.{List, [], _∷_, _++_}
+use Prim.Native.Nat.{ℕ, zero, suc, _*_, _/_, min, _≤_, _<_}
+use lib.Dec.{T}
+use lib.IntN.{ℤ, pos, natAbs, _+ℤ_, _-ℤ_, _*ℤ_}
+use lib.Signed.{_≤ℤ_, _<ℤ_}
+use lib.Ieee.{Float}
+use lib.ListN.{length, take, drop}
+use Rattle.integers.specs.Size.{size}
+use Rattle.model.specs.Refusal.{Rule, _when_, firstOf, Answer, accepted, refused}
+use Rattle.model.specs.Setup.{N, p, points, setup, setupRules}
+use Rattle.model.specs.Differences.{at}
+use Rattle.model.specs.System.{System}
+use Rattle.model.specs.State.{State, Lent, byTurn, stateOf, Neck, Forces, PointsAndFinger}
+use Rattle.model.specs.Neck.{Plan, neckRules, lay}
+use Rattle.model.specs.Start.{startRules, start}
+use Rattle.model.specs.Step.{A, c, system, gradients, WorkedStep, stepRules, step}
+use Rattle.model.specs.Energy.{loss, work, residuals, limits, roundingWork, roundingLimit}
+use Rattle.model.specs.Run.{Voice, energyOf, Call, history, acceptedSteps, voiceAfter, sumOver}
+use Rattle.model.specs.Fraction.{Holds}
+use Rattle.model.specs.Block.{pairs, BlockResult, blockRules, block}
+use Rattle.model.specs.Reading.{readingRules, reading}
+use Rattle.model.specs.declared.Setup.{Setup}
+use Rattle.model.specs.declared.Frame.{Frame}
+use Rattle.model.specs.declared.Reading.{Reading}
+use Rattle.model.specs.declared.Reading.the-variants.{Free, Pressed, Refused}
+
+-- ---- demand 1: refusals
+
+-- no condition of these rows holds
+abbrev pub Passed : List Rule → Type 0
+Passed [] = Unit {0}
+Passed ((n when b) ∷ rules) = T (not b) × Passed rules
+
+-- the number is given just when its condition holds and no earlier one does: 0 where none holds
+abbrev pub IsFirst : List Rule → ℕ → Type 0
+IsFirst rules zero = Passed rules
+IsFirst rules (suc n) = (earlier : List Rule) × ((later : List Rule) × ((rules ≡ earlier ++ (suc n when true) ∷ later) × Passed earlier))
+
+-- an answer refuses with the first number of the table, and only then
+abbrev pub Refuses : {B : Type 0} → List Rule → Answer B → Type 0
+Refuses rules (accepted a) = IsFirst rules 0
+Refuses rules (refused n) = (1 ≤ n) × IsFirst rules n
+
+-- a refusal leaves what was lent
+abbrev pub Leaves {κ} : {B : Type 0} {C : Type κ} → Answer B → C → C → Type κ
+Leaves (accepted a) before after = Unit
+Leaves (refused n) before after = after ≡ before
+
+pub record Demand1 : Type 0 where
+  pub setups : (s : Setup) → Refuses (setupRules s) (setup s)
+  pub necks : (s : Setup) (plan : Plan) (heights : List ℤ) (stiffness : List ℕ) → let r = lay s plan heights stiffness in
+      Refuses (neckRules s plan heights stiffness) (r .answer) × Leaves (r .answer) heights (r .heights) × Leaves (r .answer) stiffness (r .stiffness)
+  pub starts : (s : Setup) (first second contact : List ℤ) (w w' : ℤ) → let r = start s first second contact w w' in
+      Refuses (startRules s first second contact w w') (r .answer) × Leaves (r .answer) first (r .first) × Leaves (r .answer) second (r .second) × Leaves (r .answer) contact (r .contact)
+  pub steps : (s : Setup) (neck : Neck) (v : Lent) (F : Forces) → let r = step s neck v F in Refuses (stepRules s neck (stateOf v) F) (r .answer) × Leaves (r .answer) v (r .lent)
+  -- of a block and a reading, the number that `Blocks` and `Readings` speak of
+  pub blocks : (s : Setup) (neck : Neck) (v : Lent) (forces : List ℤ) (samples : List Float) → let rules = blockRules s neck v forces samples in IsFirst rules (firstOf rules)
+  pub readings : (s : Setup) (heights first second : List ℤ) (turn i : ℕ) → let rules = readingRules s heights first second turn i in IsFirst rules (firstOf rules)
+
+-- ---- rounding: to the nearest whole number, a tie to the greater
+
+-- q is the whole number nearest a / b, for b above 0
+pub record IsNearest (a b q : ℤ) : Type 0 where
+  -- it is at most one half from a / b
+  pub near : size (pos 2 *ℤ (b *ℤ q -ℤ a)) ≤ℤ b
+  -- where it is one half from it, q is the greater of the two whole numbers that are
+  pub tie : size (pos 2 *ℤ (b *ℤ q -ℤ a)) ≡ b → a <ℤ (b *ℤ q)
+
+-- x and y are nearest the exact solution X / D, Y / D of the two equations
+pub record IsRounded (t : System) (x y : ℤ) : Type 0 where
+  pub D : ℤ
+  pub X : ℤ
+  pub Y : ℤ
+  pub positive : pos 0 <ℤ D
+  pub row₁ : t .a₁₁ *ℤ X +ℤ t .a₁₂ *ℤ Y ≡ D *ℤ t .b₁
+  pub row₂ : t .a₂₁ *ℤ X +ℤ t .a₂₂ *ℤ Y ≡ D *ℤ t .b₂
+  pub near₁ : IsNearest X D x
+  pub near₂ : IsNearest Y D y
+
+-- ---- the contact gradient
+
+-- r is entry q of the root table: the greatest whole number whose square is at most 64·q
+pub record IsRoot (q r : ℕ) : Type 0 where
+  pub low : r * r ≤ 64 * q
+  pub high : 64 * q < suc r * suc r
+
+-- the gradient r of stiffness k and depth d
+pub record IsGradient (k : ℕ) (d r : ℤ) : Type 0 where
+  pub free : d ≤ℤ pos 0 → r ≡ pos 0
+  pub contact : pos 0 <ℤ d → (n : ℕ) × ((r ≡ pos n) × IsRoot (min 1023 (k * natAbs d / 1024)) n)
+
+-- ---- demand 2: an accepted step solves the equations
+
+-- the step from x to y: G the gradients of x, F the forces; the moves δ and δw are read off the two states
+pub record Solves (s : Setup) (x : State) (G : PointsAndFinger) (F : Forces) (y : State) : Type 0 where
+  pub length-newer : length (y .newer) ≡ points s
+  pub length-contact : length (y .contact) ≡ points s
+  pub older : y .older ≡ x .newer
+  pub finger-older : y .finger .older ≡ x .finger .newer
+  -- away from p each move is nearest c / A
+  pub away : (i : ℕ) → 1 ≤ i → i ≤ points s → i ≢ p s → IsNearest (c s x G F i) (A s G i) (at (y .newer) i -ℤ at (x .older) i)
+  -- at p the two moves are nearest the exact solution of the finger's two-by-two system
+  pub at-finger : IsRounded (system s x G F) (at (y .newer) (p s) -ℤ at (x .older) (p s)) (y .finger .newer -ℤ x .finger .older)
+  -- the contact variables follow exactly
+  pub contact : (i : ℕ) → at (y .contact) i ≡ at (x .contact) i -ℤ at (G .points) i *ℤ (at (y .newer) i -ℤ at (x .older) i)
+  pub finger-contact : y .finger .contact
+      ≡ x .finger .contact +ℤ G .finger *ℤ ((at (y .newer) (p s) -ℤ at (x .older) (p s)) -ℤ (y .finger .newer -ℤ x .finger .older))
+
+-- the state after an accepted step solves them, and no other state does; the turn is flipped to 1 or 0
+abbrev pub Demand2 : Type 0
+Demand2 = (s : Setup) (neck : Neck) (v : Lent) (F : Forces) (f : Frame) → let r = step s neck v F in r .answer ≡ accepted f
+    → let Step = Solves s (stateOf v) (gradients s neck (stateOf v)) F in
+    Step (stateOf (r .lent)) × ((y : State) → Step y → y ≡ stateOf (r .lent)) × (r .lent .turn ≡ byTurn (v .turn) 1 0)
+
+-- ---- demand 3: the energy of a run
+
+-- each in turn
+abbrev pub Every {ℓ κ} : {B : Type ℓ} → (B → Type κ) → List B → Type κ
+Every P [] = Unit
+Every P (x ∷ xs) = P x × Every P xs
+
+-- as many of both, and twice each number of rs is within its number of ls
+abbrev pub EachWithin : List ℤ → List ℤ → Type 0
+EachWithin [] [] = Unit {0}
+EachWithin [] (l ∷ ls) = ⊥
+EachWithin (r ∷ rs) [] = ⊥
+EachWithin (r ∷ rs) (l ∷ ls) = (size (pos 2 *ℤ r) ≤ℤ l) × EachWithin rs ls
+
+-- every doubled residual of a step is within its limit
+pub record WithinLimits (t : WorkedStep) : Type 0 where
+  pub points : EachWithin (residuals t .points) (limits t .points)
+  pub finger : size (pos 2 *ℤ residuals t .finger) ≤ℤ limits t .finger
+
+-- every force of a step is 0
+pub record Unforced (t : WorkedStep) : Type 0 where
+  pub pluck : t .forces .pluck ≡ pos 0
+  pub finger : t .forces .finger ≡ pos 0
+
+-- what is claimed of a run from the voice `start` to the voice `last`, whose accepted steps are `steps`
+pub record Claims (start last : Voice) (steps : List WorkedStep) : Type 0 where
+  -- the stored energy is never negative
+  pub never-negative : pos 0 ≤ℤ energyOf last
+  -- it equals starting energy + work − loss + rounding work, exactly
+  pub exact : energyOf last ≡ energyOf start +ℤ sumOver work steps -ℤ sumOver loss steps +ℤ sumOver roundingWork steps
+  -- every doubled residual is within its limit
+  pub limited : Every WithinLimits steps
+  -- so the rounding work is at most the sum of each limit times the size of its move
+  pub bounded : size (sumOver roundingWork steps) ≤ℤ sumOver roundingLimit steps
+  -- after a lossless unforced run the energy differs from the start by at most that sum
+  pub conserved : sumOver loss steps ≡ pos 0 → Every Unforced steps → size (energyOf last -ℤ energyOf start) ≤ℤ sumOver roundingLimit steps
+
+-- the claims for a list of steps from the voice v on a neck
+abbrev pub Run : Neck → Voice → List Forces → Type 0
+Run neck v Fs = let calls = history neck v Fs in Claims v (voiceAfter v calls) (acceptedSteps neck calls)
+
+abbrev pub Demand3 : Type 0
+Demand3 =
+    -- for any accepted setup,
+    (s : Setup) → setup s ≡ accepted s
+    -- any neck laid for its N, with any accepted setup that has it,
+    → (t : Setup) → setup t ≡ accepted t → N t ≡ N s → (plan : Plan) (heights : List ℤ) (stiffness : List ℕ) (neck : Neck)
+    → lay t plan heights stiffness ≡ record { answer = accepted tt; heights = neck .heights; stiffness = neck .stiffness }
+    -- and any fresh start accepted on it,
+    → (first second contact : List ℤ) (w w' : ℤ) (v : Lent)
+    → start s first second contact w w' ≡ record { answer = accepted record { turn = v .turn; finger = v .finger }; first = v .first; second = v .second; contact = v .contact }
+    -- and for every list of steps with any forces, refused steps included
+    → (Fs : List Forces) → Run neck (record { setup = s; lent = v }) Fs
+
+-- ---- a block
+
+-- the turn after n flips to 1 or 0
+unfoldable pub flips : ℕ → ℕ → ℕ
+flips zero turn = turn
+flips (suc n) turn = flips n (byTurn turn 1 0)
+
+-- the samples of the accepted calls, bridge first
+unfoldable pub frameSamples : List Call → List Float
+frameSamples [] = []
+frameSamples (k ∷ ks) = elim (k .result .answer) [ accepted f ↦ f .bridge ∷ f .neck ∷ frameSamples ks | refused n ↦ frameSamples ks ]
+
+-- the forces ended, or the next step is refused, with 12, 13 or 14
+abbrev pub Stops : Neck → Voice → List Forces → ℕ → Type 0
+Stops neck v [] r = r ≡ 0
+Stops neck v (F ∷ Fs) r = (step (v .setup) neck (v .lent) F .answer ≡ refused r) × ((r ≡ 12) ⊎ ((r ≡ 13) ⊎ (r ≡ 14)))
+
+-- the result b of a block over the steps Fs from the voice v, with these samples lent; `calls` are the first `count` calls of the run
+pub record Plays (neck : Neck) (v : Voice) (Fs : List Forces) (lentSamples : List Float) (b : BlockResult) : Type 0 where
+  pub calls : List Call
+  pub run : calls ≡ history neck v (take (b .count) Fs)
+  -- the count is that of the accepted steps and of the flips of the turn
+  pub count : b .count ≡ length (acceptedSteps neck calls)
+  pub turn : b .lent .turn ≡ flips (b .count) (v .lent .turn)
+  pub lent : b .lent ≡ voiceAfter v calls .lent
+  -- the frames of the steps made, then what was lent
+  pub samples : b .samples ≡ frameSamples calls ++ drop (2 * b .count) lentSamples
+  pub stops : Stops neck (voiceAfter v calls) (drop (b .count) Fs) (b .refusal)
+
+pub record Blocks : Type 0 where
+  -- where its own table gives no number, a block plays
+  pub played : (s : Setup) (neck : Neck) (v : Lent) (forces : List ℤ) (samples : List Float) → firstOf (blockRules s neck v forces samples) ≡ 0
+      → Plays neck (record { setup = s; lent = v }) (pairs forces) samples (block s neck v forces samples)
+  -- where it gives one, nothing is written and the count is 0
+  pub turned-down : (s : Setup) (neck : Neck) (v : Lent) (forces : List ℤ) (samples : List Float) (n : ℕ) → firstOf (blockRules s neck v forces samples) ≡ suc n
+      → block s neck v forces samples ≡ record { count = 0; refusal = suc n; lent = v; samples = samples }
+
+-- ---- frames and readings lose nothing
+
+-- what the frame of an accepted step holds
+abbrev pub Frames : Type 0
+Frames = (s : Setup) (neck : Neck) (v : Lent) (F : Forces) (f : Frame) → let r = step s neck v F in r .answer ≡ accepted f
+    → let u = stateOf (r .lent) .newer in Holds (f .bridge) (at u (s .«bridge_place»)) × Holds (f .neck) (at u (s .«neck_place»))
+
+-- what a reading holds, of the newest displacement u and the depth at its place and the number that its table gives
+abbrev pub Reads : ℤ → ℤ → ℕ → Reading → Type 0
+Reads u depth n (Free a) = (n ≡ 0) × (depth ≤ℤ pos 0) × Holds a u
+Reads u depth n (Pressed a b) = (n ≡ 0) × (pos 0 <ℤ depth) × Holds a u × Holds b depth
+Reads u depth n (Refused k) = (1 ≤ n) × (k ≡ n)
+
+abbrev pub Readings : Type 0
+Readings = (s : Setup) (heights first second : List ℤ) (turn i : ℕ) → let u = at (byTurn turn first second) i in
+    Reads u (at heights i -ℤ u) (firstOf (readingRules s heights first second turn i)) (reading s heights first second turn i)

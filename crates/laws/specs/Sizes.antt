@@ -1,0 +1,161 @@
+-- How large the numbers of a step can be, where its refusals 1 to 12 are passed: those of its equations, its moves and what it leads to.
+-- All of them are well below 2 ^ 63.
+use mathlib.Core.Path.{_≡_, refl, sym, _∙_}
+use mathlib.Core.Bool.{Bool, true, false, not, cond}
+use mathlib.Core.List.{List, [], _∷_, zipWith}
+use Prim.Native.Nat.{ℕ, zero, suc, _+_, _*_, _^_, _≤_, zero-le}
+use native.Mathlib.Omega.{arith}
+use lib.Dec.{T, leb, eqb, ltb, ltb→lt, nltb→le}
+use lib.IntN.{ℤ, pos, negℤ, _+ℤ_, _-ℤ_, _*ℤ_}
+use lib.Signed.{leZ, leZ-yes}
+use lib.ListN.{length, List·getD-eq-default}
+use mir.Facts.{and-yes, or-no, T-not-not, leb-yes, ltb-no, eqb-yes}
+use Rattle.integers.specs.Filled.{length-tabulate, getD-tabulate}
+use Rattle.integers.specs.Order.{natAbs-between}
+use Rattle.integers.specs.Sum.{bend}
+use Rattle.integers.specs.Size.{_within_, _⟨+⟩_, _⟨-⟩_, _⟨*⟩_, num, natural, neg, weaken, wide, size}
+use Rattle.model.specs.Ranges.{all, any, inside, between, displacementOk, contactOk, forceOk}
+use Rattle.model.specs.Setup.{L, M, S, Z, K, m, p, e, points, lengthOk, setupRules}
+use Rattle.model.specs.Differences.{at, minus, D1}
+use Rattle.model.specs.Gradient.{gradient}
+use Rattle.model.specs.System.{det, det₁, det₂}
+use Rattle.model.specs.State.{State, Neck, Forces, PointsAndFinger}
+use Rattle.model.specs.Step.{gradients, A, c, system, callRules}
+use Rattle.model.specs.declared.Setup.{Setup}
+use Rattle.laws.specs.Promises.{Passed, Every}
+use Rattle.laws.specs.Refusals.{fails, all-yes}
+use Rattle.laws.specs.InRange.{in-range}
+use Rattle.laws.specs.Strings.{at-minus}
+use Rattle.laws.specs.Gradient.{gradient-size}
+
+-- every place of a string is within n
+abbrev pub Bounded : List ℤ → ℕ → Type 0
+Bounded u n = (i : ℕ) → at u i within n
+
+-- 01's ranges, as a step's refusals 1 to 12 leave them
+pub record Small (s : Setup) (x : State) (G : PointsAndFinger) (F : Forces) : Type 0 where
+  pub tension : L s ≤ 4096
+  pub stiffness : M s ≤ 1024
+  pub viscous : S s ≤ 2048
+  pub plain : Z s ≤ 4096
+  pub mass : m s ≤ 1048576
+  pub massive : 1 ≤ m s
+  pub newer : Bounded (x .newer) 1048576
+  pub older : Bounded (x .older) 1048576
+  pub contact : Bounded (x .contact) 67108864
+  pub heights : (x .finger .newer within 1048576) × (x .finger .older within 1048576)
+  pub finger : x .finger .contact within 67108864
+  pub gradients : Bounded (G .points) 255
+  pub gradient : G .finger within 255
+  pub forces : (F .pluck within 1073741824) × (F .finger within 1073741824)
+  pub lengths : length (x .newer) ≡ length (x .older)
+
+D1-bounded : (u : List ℤ) {n : ℕ} → Bounded u n → Bounded (D1 u) (n + 2 * n + n)
+unfolding D1
+D1-bounded u {n} h zero = weaken (num 0) zero-le
+D1-bounded u {n} h (suc k) = go (ltb k (length u)) refl
+  where
+    go : (b : Bool) → ltb k (length u) ≡ b → at (D1 u) (suc k) within (n + 2 * n + n)
+    go true e = rw (getD-tabulate (length u) (bend (at u)) (pos 0) k (ltb→lt k (length u) (rw e tt))) (h k ⟨-⟩ num 2 ⟨*⟩ h (suc k) ⟨+⟩ h (suc (suc k)))
+    go false e = rw (List·getD-eq-default (D1 u) (pos 0) {n = k} (rw (length-tabulate (length u) (bend (at u))) (nltb→le k (length u) (rw e tt)))) (weaken (num 0) zero-le)
+
+only : (b : Bool) {y : ℤ} {n : ℕ} → y within n → cond b y (pos 0) within n
+only true h = h
+only false h = weaken (num 0) zero-le
+
+module _ {s : Setup} {x : State} {G : PointsAndFinger} {F : Forces} (b : Small s x G F) where
+  a : List ℤ
+  a = minus (x .newer) (x .older)
+
+  a-bounded : Bounded a 2097152
+  unfolding a
+  a-bounded i = rw (at-minus (record { long = refl }) (record { long = sym (b .lengths) }) i) (b .newer i ⟨-⟩ b .older i)
+
+  pub A-size : (i : ℕ) → A s G i within 73217
+  unfolding A
+  A-size i = num 4096 ⟨+⟩ natural (b .plain) ⟨+⟩ b .gradients i ⟨*⟩ b .gradients i
+
+  pub c-size : (i : ℕ) → c s x G F i within 2 ^ 37
+  unfolding c a
+  c-size i =
+      let u = x .newer in
+      wide (num 8192 ⟨*⟩ a-bounded i ⟨+⟩ natural (b .tension) ⟨*⟩ D1-bounded u (b .newer) i ⟨-⟩ natural (b .stiffness) ⟨*⟩ D1-bounded (D1 u) (D1-bounded u (b .newer)) i
+      ⟨+⟩ natural (b .viscous) ⟨*⟩ D1-bounded a a-bounded i ⟨+⟩ num 2 ⟨*⟩ b .gradients i ⟨*⟩ b .contact i ⟨+⟩ only (eqb i (e s)) (b .forces .0)) tt
+
+  pub b₁-size : system s x G F .b₁ within 2 ^ 38
+  unfolding system
+  b₁-size = wide (c-size (p s) ⟨-⟩ num 2 ⟨*⟩ b .gradient ⟨*⟩ b .finger) tt
+
+  pub b₂-size : system s x G F .b₂ within 2 ^ 43
+  unfolding system
+  b₂-size = wide (num 2 ⟨*⟩ natural (b .mass) ⟨*⟩ (b .heights .0 ⟨-⟩ b .heights .1) ⟨+⟩ b .forces .1 ⟨+⟩ num 2 ⟨*⟩ b .gradient ⟨*⟩ b .finger) tt
+
+  pub det-size : det (system s x G F) within 2 ^ 38
+  unfolding system
+  det-size =
+      let q = b .gradient ⟨*⟩ b .gradient in
+      wide ((A-size (p s) ⟨+⟩ q) ⟨*⟩ (natural (b .mass) ⟨+⟩ q) ⟨-⟩ neg q ⟨*⟩ neg q) tt
+
+  pub det₁-size : (pos 2 *ℤ det₁ (system s x G F) +ℤ det (system s x G F)) within 2 ^ 61
+  unfolding system
+  det₁-size =
+      let q = b .gradient ⟨*⟩ b .gradient in
+      wide (num 2 ⟨*⟩ (b₁-size ⟨*⟩ (natural (b .mass) ⟨+⟩ q) ⟨-⟩ neg q ⟨*⟩ b₂-size) ⟨+⟩ det-size) tt
+
+  pub det₂-size : (pos 2 *ℤ det₂ (system s x G F) +ℤ det (system s x G F)) within 2 ^ 62
+  unfolding system
+  det₂-size =
+      let q = b .gradient ⟨*⟩ b .gradient in
+      wide (num 2 ⟨*⟩ ((A-size (p s) ⟨+⟩ q) ⟨*⟩ b₂-size ⟨-⟩ b₁-size ⟨*⟩ neg q) ⟨+⟩ det-size) tt
+
+-- ---- the ranges hold where the refusals 1 to 12 are passed
+
+pub inside-within : (n : ℕ) (x : ℤ) → T (inside (negℤ (pos n)) x (pos n)) → x within n
+unfolding inside
+inside-within n x t = let k = and-yes (leZ (negℤ (pos n)) x) (leZ x (pos n)) t in record { size = natAbs-between (leZ-yes (k .0)) (leZ-yes (k .1)) }
+
+bounded : (n : ℕ) (u : List ℤ) → T (all (λ x. inside (negℤ (pos n)) x (pos n)) u) → Bounded u n
+bounded n u t zero = weaken (num 0) zero-le
+bounded n [] t (suc k) = weaken (num 0) zero-le
+bounded n (x ∷ u) t (suc zero) = inside-within n x (and-yes (inside (negℤ (pos n)) x (pos n)) (all (λ x. inside (negℤ (pos n)) x (pos n)) u) t .0)
+bounded n (x ∷ u) t (suc (suc k)) = bounded n u (and-yes (inside (negℤ (pos n)) x (pos n)) (all (λ x. inside (negℤ (pos n)) x (pos n)) u) t .1) (suc k)
+
+zip-bounded : (ks : List ℕ) (ds : List ℤ) → Bounded (zipWith gradient ks ds) 255
+unfolding zipWith
+zip-bounded ks ds zero = natural zero-le
+zip-bounded [] ds (suc i) = natural zero-le
+zip-bounded (k ∷ ks) [] (suc i) = natural zero-le
+zip-bounded (k ∷ ks) (d ∷ ds) (suc zero) = gradient-size k d
+zip-bounded (k ∷ ks) (d ∷ ds) (suc (suc i)) = zip-bounded ks ds (suc i)
+
+none-above : (ns : List ℕ) → T (not (any (ltb 4096) ns)) → Every (λ n. n ≤ 4096) ns
+none-above [] t = tt
+none-above (n ∷ ns) t = let k = or-no (ltb 4096 n) (any (ltb 4096) ns) t in (ltb-no (k .0), none-above ns (k .1))
+
+pub small : (s : Setup) (neck : Neck) (x : State) (F : Forces) → Passed (callRules s neck x F) → Small s x (gradients s neck x) F
+unfolding callRules setupRules gradients lengthOk displacementOk contactOk forceOk between
+small s neck x F h =
+    let rules = callRules s neck x F in
+    let sum : L s + 4 * M s + 2 * S s ≤ 4096 = ltb-no (fails 3 rules h) in
+    let large = none-above (L s ∷ M s ∷ S s ∷ Z s ∷ []) (or-no (eqb (L s) 0) (any (ltb 4096) (L s ∷ M s ∷ S s ∷ Z s ∷ [])) (fails 2 rules h) .1) in
+    let mass = and-yes (leb 1 (m s)) (leb (m s) 1048576) (T-not-not (between 1 (m s) 1048576) (fails 5 rules h)) in
+    let sizes = all-yes (lengthOk s) (length (neck .heights) ∷ length (neck .stiffness) ∷ length (x .newer) ∷ length (x .older) ∷ length (x .contact) ∷ []) (fails 6 rules h) in
+    let range = in-range x (fails 11 rules h, tt) in
+    let forces = all-yes forceOk (F .pluck ∷ F .finger ∷ []) (fails 12 rules h) in
+    record {
+      tension = omega arith;
+      stiffness = omega arith;
+      viscous = omega arith;
+      plain = large .1 .1 .1 .0;
+      mass = leb-yes (mass .1);
+      massive = leb-yes (mass .0);
+      newer = bounded 1048576 (x .newer) (range .newer);
+      older = bounded 1048576 (x .older) (range .older);
+      contact = bounded 67108864 (x .contact) (range .contact);
+      heights = (inside-within 1048576 (x .finger .newer) (range .height), inside-within 1048576 (x .finger .older) (range .older-height));
+      finger = inside-within 67108864 (x .finger .contact) (range .finger);
+      gradients = zip-bounded (neck .stiffness) (minus (neck .heights) (x .newer));
+      gradient = gradient-size (K s) (at (x .newer) (p s) -ℤ x .finger .newer);
+      forces = (inside-within 1073741824 (F .pluck) (forces .0), inside-within 1073741824 (F .finger) (forces .1 .0));
+      lengths = eqb-yes (sizes .1 .1 .0) ∙ sym (eqb-yes (sizes .1 .1 .1 .0));
+    }

@@ -1,0 +1,61 @@
+-- What the answers of the operations come to, with the lent buffers at exit: the number and the values of each case. The contract of an operation
+-- equates this with the operation's definition, for all arguments:
+--   setup     setupResult answer ≡ setup s
+--   neck      neckResult answer heights stiffness ≡ lay s plan heights₀ stiffness₀
+--   start     startResult answer first second contact ≡ start s first₀ second₀ contact₀ w w'
+--   step      stepResult turn₀ finger₀ answer first second contact ≡ step s neck v F
+--   block     blockResult answer first second contact samples ≡ block s neck v forces samples₀
+--   newest    answer ≡ newest turn first second, of the references themselves
+--   reading   answer ≡ reading s heights first second turn place
+use mathlib.Core.List.{List}
+use Prim.Native.Nat.{ℕ}
+use lib.IntN.{ℤ}
+use lib.Ieee.{Float}
+use Rattle.model.specs.Refusal.{Answer, accepted, refused}
+use Rattle.model.specs.Neck.{NeckResult}
+use Rattle.model.specs.Start.{StartResult}
+use Rattle.model.specs.Step.{StepResult}
+use Rattle.model.specs.Block.{BlockResult}
+use Rattle.model.specs.declared.Setup.{Setup}
+use Rattle.model.specs.declared.Finger.{Finger}
+use Rattle.model.specs.declared.Started.{Started}
+use Rattle.model.specs.declared.SetupAnswer.{SetupAnswer}
+use Rattle.model.specs.declared.SetupAnswer.the-variants as SetupAnswer
+use Rattle.model.specs.declared.NeckAnswer.{NeckAnswer}
+use Rattle.model.specs.declared.NeckAnswer.the-variants as NeckAnswer
+use Rattle.model.specs.declared.StartAnswer.{StartAnswer}
+use Rattle.model.specs.declared.StartAnswer.the-variants as StartAnswer
+use Rattle.model.specs.declared.StepAnswer.{StepAnswer}
+use Rattle.model.specs.declared.StepAnswer.the-variants as StepAnswer
+use Rattle.model.specs.declared.BlockAnswer.{BlockAnswer}
+
+abbrev pub setupResult : SetupAnswer → Answer Setup
+setupResult (SetupAnswer.Accepted s) = accepted s
+setupResult (SetupAnswer.Refused n) = refused n
+
+abbrev pub neckAnswer : NeckAnswer → Answer (Unit {0})
+neckAnswer NeckAnswer.Accepted = accepted tt
+neckAnswer (NeckAnswer.Refused n) = refused n
+
+abbrev pub neckResult : NeckAnswer → List ℤ → List ℕ → NeckResult
+neckResult r heights stiffness = record { answer = neckAnswer r; heights = heights; stiffness = stiffness }
+
+abbrev pub startAnswer : StartAnswer → Answer Started
+startAnswer (StartAnswer.Accepted a) = accepted a
+startAnswer (StartAnswer.Refused n) = refused n
+
+abbrev pub startResult : StartAnswer → List ℤ → List ℤ → List ℤ → StartResult
+startResult r first second contact = record { answer = startAnswer r; first = first; second = second; contact = contact }
+
+-- turn and finger are those of an accepted answer; after a refusal they remain those passed in
+abbrev pub stepResult : ℕ → Finger → StepAnswer → List ℤ → List ℤ → List ℤ → StepResult
+stepResult turn finger (StepAnswer.Accepted a) first second contact = record { answer = accepted (a .frame); lent = record { first = first; second = second; contact = contact; turn = a .turn; finger = a .finger } }
+stepResult turn finger (StepAnswer.Refused n) first second contact = record { answer = refused n; lent = record { first = first; second = second; contact = contact; turn = turn; finger = finger } }
+
+abbrev pub blockResult : BlockAnswer → List ℤ → List ℤ → List ℤ → List Float → BlockResult
+blockResult r first second contact samples = record {
+  count = r .count;
+  refusal = r .refusal;
+  lent = record { first = first; second = second; contact = contact; turn = r .turn; finger = r .finger };
+  samples = samples;
+}

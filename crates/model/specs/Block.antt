@@ -1,0 +1,50 @@
+-- 01, 'Playing a block', and a block's refusals.
+use mathlib.Core.Bool.{_||_, not}
+use mathlib.Core.List.{List, [], _∷_, _++_}
+use Prim.Native.Nat.{ℕ, suc, _%_}
+use lib.Dec.{eqb}
+use lib.IntN.{ℤ}
+use lib.Ieee.{Float}
+use lib.ListN.{length, drop}
+use Rattle.model.specs.Refusal.{Rule, _when_, firstOf, accepted, refused, unless}
+use Rattle.model.specs.Setup.{setupRules}
+use Rattle.model.specs.State.{Lent, stateOf, Neck, Forces}
+use Rattle.model.specs.Neck.{heightsRule}
+use Rattle.model.specs.Step.{buffersRule, stateRule, step}
+use Rattle.model.specs.declared.Setup.{Setup}
+
+-- the forces of each step: pluck and finger in turn
+abbrev pub pairs : List ℤ → List Forces
+pairs [] = []
+pairs (f ∷ []) = []
+pairs (f ∷ g ∷ fs) = record { pluck = f; finger = g } ∷ pairs fs
+
+-- the number of steps made, the refusal that stopped them (0 if none did), and what the lent buffers, turn, finger and samples then are
+pub record BlockResult : Type 0 where
+  pub count : ℕ
+  pub refusal : ℕ
+  pub lent : Lent
+  pub samples : List Float
+
+module _ (s : Setup) (neck : Neck) where
+  -- steps until the forces end or one is refused; each frame is written in turn, bridge first
+  unfoldable pub play : Lent → List Forces → List Float → BlockResult
+  play v [] samples = record { count = 0; refusal = 0; lent = v; samples = samples }
+  play v (F ∷ Fs) samples =
+      let r = step s neck v F in
+      elim (r .answer) [
+        | accepted f ↦ (let b = play (r .lent) Fs (drop 2 samples) in record { count = suc (b .count); refusal = b .refusal; lent = b .lent; samples = f .bridge ∷ f .neck ∷ b .samples })
+        | refused n ↦ record { count = 0; refusal = n; lent = r .lent; samples = samples }
+      ]
+
+  module _ (v : Lent) (forces : List ℤ) (samples : List Float) where
+    unfoldable pub blockRules : List Rule
+    blockRules = setupRules s
+        ++ buffersRule s neck (stateOf v)
+        ∷ 15 when (eqb (length forces % 2) 1 || not (eqb (length samples) (length forces)))
+        ∷ heightsRule (neck .heights)
+        ∷ stateRule (stateOf v)
+        ∷ []
+
+    unfoldable pub block : BlockResult
+    block = unless (firstOf blockRules) (play v (pairs forces) samples) (λ n. record { count = 0; refusal = n; lent = v; samples = samples })

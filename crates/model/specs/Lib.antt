@@ -1,0 +1,22 @@
+-- Document 01 as definitions, a file for each of its sections, and its worked examples, computed.
+pub mod Ranges
+pub mod Refusal
+pub mod Setup
+pub mod Differences
+pub mod Gradient
+pub mod Rounding
+pub mod Fraction
+pub mod System
+pub mod State
+pub mod Neck
+pub mod Step
+pub mod Start
+pub mod Energy
+pub mod Run
+pub mod Block
+pub mod Reading
+pub mod Answers
+pub mod Bench
+pub mod CheckedByHand
+pub mod Worked
+pub mod Boundaries

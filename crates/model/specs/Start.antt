@@ -1,0 +1,37 @@
+-- 01, 'One step': the fresh start, and its refusals.
+use mathlib.Core.Bool.{_&&_, not}
+use mathlib.Core.List.{List, [], _∷_, _++_}
+use lib.IntN.{ℤ, pos}
+use lib.ListN.{length, replicate}
+use Rattle.model.specs.Ranges.{inside, displacementOk}
+use Rattle.model.specs.Refusal.{Rule, _when_, firstOf, Answer, accepted, refused, unless}
+use Rattle.model.specs.Setup.{points, lengthsRule, setupRules}
+use Rattle.model.specs.State.{Lent}
+use Rattle.model.specs.declared.Setup.{Setup}
+use Rattle.model.specs.declared.Started.{Started}
+
+-- both strings and all contact variables zero, turn 0, the finger at height w, its older height w'
+unfoldable pub fresh : Setup → ℤ → ℤ → Lent
+fresh s w w' =
+    let zeros = replicate (points s) (pos 0) in
+    record { first = zeros; second = zeros; contact = zeros; turn = 0; finger = record { newer = w; older = w'; contact = pos 0 } }
+
+-- the turn and the finger or the number, and the three lent buffers after the call
+pub record StartResult : Type 0 where
+  pub answer : Answer Started
+  pub first : List ℤ
+  pub second : List ℤ
+  pub contact : List ℤ
+
+-- first, second and contact are the lent buffers
+module _ (s : Setup) (first second contact : List ℤ) (w w' : ℤ) where
+  unfoldable pub startRules : List Rule
+  startRules = setupRules s
+      ++ lengthsRule s (length first ∷ length second ∷ length contact ∷ [])
+      ∷ 10 when not (inside (pos 0) w (pos 1048576) && displacementOk w')
+      ∷ []
+
+  unfoldable pub start : StartResult
+  start = unless (firstOf startRules)
+      (let v = fresh s w w' in record { answer = accepted record { turn = v .turn; finger = v .finger }; first = v .first; second = v .second; contact = v .contact })
+      (λ n. record { answer = refused n; first = first; second = second; contact = contact })

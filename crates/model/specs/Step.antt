@@ -1,0 +1,145 @@
+-- 01, 'One step', in parts: the gradients; the moves, with any gradients; the next state, with any moves; the refusals; the call.
+use mathlib.Core.Bool.{_&&_, not, cond}
+use mathlib.Core.List.{List, [], _∷_, _++_, zipWith}
+use Prim.Native.Nat.{ℕ}
+use lib.Dec.{eqb}
+use lib.IntN.{ℤ, pos, negℤ, _+ℤ_, _-ℤ_, _*ℤ_}
+use lib.Ieee.{binary32}
+use lib.ListN.{length}
+use Rattle.model.specs.Ranges.{all, displacementOk, contactOk, forceOk}
+use Rattle.model.specs.Refusal.{Rule, _when_, firstOf, Answer, accepted, refused, unless}
+use Rattle.model.specs.Setup.{L, M, S, Z, K, m, p, e, points, lengthsRule, setupRules}
+use Rattle.model.specs.Differences.{at, places, plus, minus, times, D1, D2}
+use Rattle.model.specs.Gradient.{gradient}
+use Rattle.model.specs.Rounding.{nearest}
+use Rattle.model.specs.System.{System, rounded₁, rounded₂}
+use Rattle.model.specs.State.{State, Lent, stateOf, put, Neck, Forces, PointsAndFinger}
+use Rattle.model.specs.Neck.{heightsRule}
+use Rattle.model.specs.Fraction.{fraction}
+use Rattle.model.specs.declared.Setup.{Setup}
+use Rattle.model.specs.declared.Frame.{Frame}
+
+-- ---- the gradients, from the newer values
+
+-- G for the depths height − u, g for the depth u(p) − w
+unfoldable pub gradients : Setup → Neck → State → PointsAndFinger
+gradients s neck x = record {
+  points = zipWith gradient (neck .stiffness) (minus (neck .heights) (x .newer));
+  finger = gradient (K s) (at (x .newer) (p s) -ℤ x .finger .newer);
+}
+
+-- ---- the moves, with any gradients
+
+-- a at the finger's place p, b away from it
+abbrev pub underFinger {ℓ} : {B : Type ℓ} → Setup → ℕ → B → B → B
+underFinger s i a b = cond (eqb i (p s)) a b
+
+unfoldable pub A : Setup → PointsAndFinger → ℕ → ℤ
+A s G i = pos 4096 +ℤ pos (Z s) +ℤ at (G .points) i *ℤ at (G .points) i
+
+module _ (s : Setup) (x : State) (G : PointsAndFinger) (F : Forces) where
+  unfoldable pub c : ℕ → ℤ
+  c i =
+      let u = x .newer in
+      let a = minus u (x .older) in
+      pos 8192 *ℤ at a i +ℤ pos (L s) *ℤ at (D1 u) i -ℤ pos (M s) *ℤ at (D2 u) i +ℤ pos (S s) *ℤ at (D1 a) i
+      +ℤ pos 2 *ℤ at (G .points) i *ℤ at (x .contact) i +ℤ cond (eqb i (e s)) (F .pluck) (pos 0)
+
+  -- the finger's two-by-two system, for δ at p and δw
+  unfoldable pub system : System
+  system =
+      let g = G .finger in
+      let φ = x .finger .contact in
+      let w = x .finger .newer in
+      let w' = x .finger .older in
+      record {
+        a₁₁ = A s G (p s) +ℤ g *ℤ g;
+        a₁₂ = negℤ (g *ℤ g);
+        b₁ = c (p s) -ℤ pos 2 *ℤ g *ℤ φ;
+        a₂₁ = negℤ (g *ℤ g);
+        a₂₂ = pos (m s) +ℤ g *ℤ g;
+        b₂ = pos 2 *ℤ pos (m s) *ℤ (w -ℤ w') +ℤ F .finger +ℤ pos 2 *ℤ g *ℤ φ;
+      }
+
+  -- δ at each point, and δw
+  unfoldable pub moves : PointsAndFinger
+  moves = record {
+    points = places (points s) (λ i. underFinger s i (rounded₁ system) (nearest (c i) (A s G i)));
+    finger = rounded₂ system;
+  }
+
+-- ---- a step worked out, and the next state
+
+-- the setup and the state before the step, the gradients, the forces and the moves: all that its energy is reckoned from
+pub record WorkedStep : Type 0 where
+  pub setup : Setup
+  pub before : State
+  pub gradients : PointsAndFinger
+  pub forces : Forces
+  pub moves : PointsAndFinger
+
+unfoldable pub workedStep : Setup → Neck → State → Forces → WorkedStep
+workedStep s neck x F = let G = gradients s neck x in record { setup = s; before = x; gradients = G; forces = F; moves = moves s x G F }
+
+-- new string v + δ, new finger height w' + δw, new ψ = ψ − G·δ, new φ = φ + g·(δ − δw)
+unfoldable pub nextState : WorkedStep → State
+nextState t =
+    let x = t .before in
+    let G = t .gradients in
+    let δ = t .moves in
+    record {
+      newer = plus (x .older) (δ .points);
+      older = x .newer;
+      contact = minus (x .contact) (times (G .points) (δ .points));
+      finger = record {
+        newer = x .finger .older +ℤ δ .finger;
+        older = x .finger .newer;
+        contact = x .finger .contact +ℤ G .finger *ℤ (at (δ .points) (p (t .setup)) -ℤ δ .finger);
+      };
+    }
+
+-- ---- the refusals
+
+-- 6: every neck, string and contact buffer
+abbrev pub buffersRule : Setup → Neck → State → Rule
+buffersRule s neck x = lengthsRule s (length (neck .heights) ∷ length (neck .stiffness) ∷ length (x .newer) ∷ length (x .older) ∷ length (x .contact) ∷ [])
+
+-- 11: a displacement, finger height or contact variable passed in
+abbrev pub stateRule : State → Rule
+stateRule x = 11 when not (all displacementOk (x .finger .newer ∷ x .finger .older ∷ x .newer ++ x .older) && all contactOk (x .finger .contact ∷ x .contact))
+
+-- what a call is refused for
+unfoldable pub callRules : Setup → Neck → State → Forces → List Rule
+callRules s neck x F = setupRules s
+    ++ buffersRule s neck x
+    ∷ heightsRule (neck .heights)
+    ∷ stateRule x
+    ∷ 12 when not (all forceOk (F .pluck ∷ F .finger ∷ []))
+    ∷ []
+
+-- what its result is refused for
+unfoldable pub resultRules : State → List Rule
+resultRules y =
+    13 when not (all displacementOk (y .finger .newer ∷ y .newer))
+    ∷ 14 when not (all contactOk (y .finger .contact ∷ y .contact))
+    ∷ []
+
+unfoldable pub stepRules : Setup → Neck → State → Forces → List Rule
+stepRules s neck x F = callRules s neck x F ++ resultRules (nextState (workedStep s neck x F))
+
+-- ---- the call
+
+-- the pickup frame of a step that led to the state x
+unfoldable pub frame : Setup → State → Frame
+frame s x = record { bridge = fraction binary32 (at (x .newer) (s .«bridge_place»)); neck = fraction binary32 (at (x .newer) (s .«neck_place»)) }
+
+-- the frame or the number, and the lent buffers, turn and finger after the call
+pub record StepResult : Type 0 where
+  pub answer : Answer Frame
+  pub lent : Lent
+
+unfoldable pub step : Setup → Neck → Lent → Forces → StepResult
+step s neck v F =
+    let x = stateOf v in
+    let y = nextState (workedStep s neck x F) in
+    unless (firstOf (stepRules s neck x F)) (record { answer = accepted (frame s y); lent = put v y }) (λ n. record { answer = refused n; lent = v })

@@ -1,0 +1,85 @@
+// The types of the string voice: a setup, a finger, a pickup frame, and what each operation answers.
+// What they mean is in specs/, a file for each section of document 01.
+
+// 01, 'Setup': what the finger brings to it.
+pub struct FingerSetup {
+    pub place: u32,
+    pub stiffness: u16,
+    pub mass: u32,
+}
+
+// 01, 'Setup'. The letters that 01 gives the fields are in specs/Setup.antt.
+pub struct Setup {
+    pub segments: u32,
+    pub tension: u32,
+    pub stiffness: u32,
+    pub viscous: u32,
+    pub plain: u32,
+    pub finger: FingerSetup,
+    pub pluck_place: u32,
+    pub bridge_place: u32,
+    pub neck_place: u32,
+}
+
+// 01, 'One step': the finger's newer height w, its older height w' and its contact variable φ.
+pub struct Finger {
+    pub newer: i32,
+    pub older: i32,
+    pub contact: i32,
+}
+
+// 01, 'Playing a block': a pickup frame, the two new displacements divided by 1,048,576.
+pub struct Frame {
+    pub bridge: f32,
+    pub neck: f32,
+}
+
+// What each operation answers: what it made, or the number of its refusal.
+
+pub enum SetupAnswer {
+    Accepted(Setup),
+    Refused(u32),
+}
+
+pub enum NeckAnswer {
+    Accepted,
+    Refused(u32),
+}
+
+// A fresh start's turn and finger.
+pub struct Started {
+    pub turn: u32,
+    pub finger: Finger,
+}
+
+pub enum StartAnswer {
+    Accepted(Started),
+    Refused(u32),
+}
+
+// The turn and the finger after a step, and its frame.
+pub struct Stepped {
+    pub turn: u32,
+    pub finger: Finger,
+    pub frame: Frame,
+}
+
+pub enum StepAnswer {
+    Accepted(Stepped),
+    Refused(u32),
+}
+
+// The number of steps that a block made, the refusal that stopped it (0 if none did), and the turn and finger after it.
+pub struct BlockAnswer {
+    pub count: usize,
+    pub refusal: u32,
+    pub turn: u32,
+    pub finger: Finger,
+}
+
+// A place's newest displacement; where the string is pressed, its depth too; both divided by 1,048,576.
+pub enum Reading {
+    Free(f64),
+    Pressed(f64, f64),
+    Refused(u32),
+}
