@@ -14,7 +14,7 @@ use Rattle.model.specs.Step.{workedStep, nextState, buffersRule, callRules, res
 use Rattle.model.specs.Start.{startRules, StartResult, start, fresh}
 use Rattle.model.specs.declared.Setup.{Setup}
 use Rattle.model.specs.declared.Frame.{Frame}
-use Rattle.laws.specs.Promises.{Passed}
+use Rattle.promises.specs.Promises.{Passed}
 use Rattle.laws.specs.Refusals.{fails, all-yes, by-table, never-both, accepted-by}
 use Rattle.laws.specs.Strings.{_spans_}
 

@@ -15,7 +15,7 @@ use Rattle.model.specs.Run.{Voice, call, history, acceptedSteps, voiceAfter}
 use Rattle.model.specs.Block.{pairs, play, blockRules, block}
 use Rattle.model.specs.declared.Setup.{Setup}
 use Rattle.model.specs.declared.Frame.{Frame}
-use Rattle.laws.specs.Promises.{Passed, flips, frameSamples, Plays, Blocks}
+use Rattle.promises.specs.Promises.{Passed, flips, frameSamples, Plays, Blocks}
 use Rattle.laws.specs.Refusals.{passed, fails, passed-append}
 use Rattle.laws.specs.Accepted.{accepted-step, step-refused, step-turn}
 use Rattle.laws.specs.Ready.{Ready, ready-next, ready-refused}

@@ -15,8 +15,8 @@ use Rattle.model.specs.Step.{callRules, resultRules, stepRules, StepResult, ste
 use Rattle.model.specs.Block.{blockRules}
 use Rattle.model.specs.Reading.{readingRules}
 use Rattle.model.specs.declared.Setup.{Setup}
-use Rattle.laws.specs.Promises as promise
-use Rattle.laws.specs.Promises.{Demand1, Demand2, Demand3, Blocks, Frames, Readings, IsNearest, IsGradient, Refuses, Leaves}
+use Rattle.promises.specs.Promises as promise
+use Rattle.promises.specs.Promises.{Demand1, Demand2, Demand3, Blocks, Frames, Readings, IsNearest, IsGradient, Refuses, Leaves}
 use Rattle.laws.specs.Refusals.{first-is, by-table}
 use Rattle.laws.specs.Nearest as Nearest
 use Rattle.laws.specs.Gradient as Gradient

@@ -26,7 +26,7 @@ use Rattle.model.specs.declared.Setup.{Setup}
 use Rattle.model.specs.declared.Frame.{Frame}
 use Rattle.model.specs.declared.Reading.{Reading}
 use Rattle.model.specs.declared.Reading.the-variants.{Free, Pressed, Refused}
-use Rattle.laws.specs.Promises.{Passed, Frames, Reads, Readings}
+use Rattle.promises.specs.Promises.{Passed, Frames, Reads, Readings}
 use Rattle.laws.specs.Refusals.{passed, fails, at-all}
 use Rattle.laws.specs.Accepted.{stateMade, step-accepted, accepted-step}
 use Rattle.laws.specs.Sizes.{inside-within}

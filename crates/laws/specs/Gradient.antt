@@ -13,7 +13,7 @@ use mathlib.Core.List.{[], _∷_}
 use Rattle.integers.specs.Tests.{is-true, is-false}
 use Rattle.integers.specs.Size.{_within_, natural}
 use Rattle.model.specs.Gradient.{greatest, root, gradient}
-use Rattle.laws.specs.Promises.{IsRoot, IsGradient}
+use Rattle.promises.specs.Promises.{IsRoot, IsGradient}
 
 module _ (f : ℕ → Bool) where
   -- it passes, where 0 does

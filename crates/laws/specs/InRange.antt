@@ -7,7 +7,7 @@ use mir.Facts.{and-yes, yes-and, T-not-not}
 use Rattle.model.specs.Ranges.{all, displacementOk, contactOk}
 use Rattle.model.specs.State.{State}
 use Rattle.model.specs.Step.{stateRule}
-use Rattle.laws.specs.Promises.{Passed}
+use Rattle.promises.specs.Promises.{Passed}
 use Rattle.laws.specs.Refusals.{not-not, all-append, append-all}
 
 pub record InRange (x : State) : Type 0 where

@@ -1,5 +1,4 @@
--- Why document 01's voice is safe: theorems about the model. `Promises` has the statements, `Demands` their proofs.
-pub mod Promises
+-- Why document 01's voice is safe: theorems about the model. `Demands` has the proofs of the promises, the other files lead there.
 pub mod Refusals
 pub mod InRange
 pub mod Strings
@@ -19,3 +18,4 @@ pub mod Ready
 pub mod Block
 pub mod Exact
 pub mod Demands
+mod Witness

@@ -16,7 +16,7 @@ use Rattle.model.specs.Differences.{at}
 use Rattle.model.specs.System.{residual₁}
 use Rattle.model.specs.Step.{A, c, system, WorkedStep}
 use Rattle.model.specs.Energy.{residuals, limits}
-use Rattle.laws.specs.Promises.{EachWithin, WithinLimits}
+use Rattle.promises.specs.Promises.{EachWithin, WithinLimits}
 use Rattle.laws.specs.System.{residual₁-≤, residual₂-≤}
 use Rattle.laws.specs.Moves.{NearestMoves, A-positive}
 

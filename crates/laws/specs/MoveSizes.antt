@@ -23,7 +23,7 @@ use Rattle.model.specs.declared.Setup.{Setup}
 use Rattle.laws.specs.Strings.{at-plus, at-minus, at-times, spans-times}
 use Rattle.laws.specs.Nearest.{nearest-size}
 use Rattle.laws.specs.Moves.{A-positive, det-positive}
-use Rattle.laws.specs.Promises.{Passed}
+use Rattle.promises.specs.Promises.{Passed}
 use Rattle.laws.specs.Accepted.{examined}
 use Rattle.laws.specs.Run.{fit}
 use Rattle.laws.specs.Sizes.{Bounded, Small, c-size, b₁-size, b₂-size, small}

@@ -22,7 +22,7 @@ use Rattle.model.specs.System.{det, rounded₁}
 use Rattle.model.specs.State.{State, Forces, PointsAndFinger}
 use Rattle.model.specs.Step.{A, c, system, moves}
 use Rattle.model.specs.declared.Setup.{Setup}
-use Rattle.laws.specs.Promises.{IsNearest, IsRounded}
+use Rattle.promises.specs.Promises.{IsNearest, IsRounded}
 use Rattle.laws.specs.Strings.{_spans_, at-places}
 use Rattle.laws.specs.Nearest.{nearest-is, unique}
 use Rattle.laws.specs.System.{rounded-is, rounded₁-unique, rounded₂-unique}

@@ -13,7 +13,7 @@ use Rattle.integers.specs.Order.{≤-antisym, ≤-trans, ≤-times, ≤-natAbs,
 use Rattle.integers.specs.Size.{size, size-neg, size-nonneg, size-between}
 use Rattle.integers.specs.Derive.{_≼_, _≺_, _⊢_, times, equal, deduce}
 use Rattle.model.specs.Rounding.{floor, nearest}
-use Rattle.laws.specs.Promises.{IsNearest}
+use Rattle.promises.specs.Promises.{IsNearest}
 
 -- ---- the floor: b·q ≤ a < b·(q + 1)
 

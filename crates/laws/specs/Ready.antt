@@ -15,7 +15,7 @@ use Rattle.model.specs.State.{State, Lent, stateOf, Neck, Forces}
 use Rattle.model.specs.Neck.{heightsRule}
 use Rattle.model.specs.Step.{workedStep, nextState, buffersRule, stateRule, callRules, resultRules, stepRules, step}
 use Rattle.model.specs.declared.Setup.{Setup}
-use Rattle.laws.specs.Promises.{Passed}
+use Rattle.promises.specs.Promises.{Passed}
 use Rattle.laws.specs.Refusals.{fails, first-append, append-passed, not-not, yes-all, never-both}
 use Rattle.laws.specs.InRange.{InRange, in-range, passed-range}
 use Rattle.laws.specs.Strings.{spans-plus, spans-minus, spans-times}

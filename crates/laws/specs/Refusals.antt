@@ -10,7 +10,7 @@ use mir.Facts.{and-yes, yes-and, T-not-not}
 use Rattle.model.specs.Ranges.{all}
 use Rattle.model.specs.Refusal.{Rule, _when_, firstOf, Answer, accepted, refused, unless}
 use Rattle.model.specs.Differences.{at}
-use Rattle.laws.specs.Promises.{Passed, IsFirst, Every}
+use Rattle.promises.specs.Promises.{Passed, IsFirst, Every}
 
 -- every number of a table is above 0
 abbrev pub numbered : List Rule → Bool

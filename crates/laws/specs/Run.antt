@@ -18,7 +18,7 @@ use Rattle.model.specs.Energy.{storedEnergy, work, loss, dotAll, residuals, lim
 use Rattle.model.specs.Run.{Voice, energyOf, history, acceptedSteps, voiceAfter, sumOver}
 use Rattle.model.specs.declared.Setup.{Setup}
 use Rattle.model.specs.declared.Frame.{Frame}
-use Rattle.laws.specs.Promises.{Every, WithinLimits, Unforced, Claims, Run}
+use Rattle.promises.specs.Promises.{Every, WithinLimits, Unforced, Claims, Run}
 use Rattle.laws.specs.Strings.{_spans_, length-zip, spans-plus, spans-minus, dot-size}
 use Rattle.laws.specs.Balance.{Fit, balance}
 use Rattle.laws.specs.Positive.{energy-nonneg}

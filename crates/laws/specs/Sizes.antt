@@ -22,7 +22,7 @@ use Rattle.model.specs.System.{det, det₁, det₂}
 use Rattle.model.specs.State.{State, Neck, Forces, PointsAndFinger}
 use Rattle.model.specs.Step.{gradients, A, c, system, callRules}
 use Rattle.model.specs.declared.Setup.{Setup}
-use Rattle.laws.specs.Promises.{Passed, Every}
+use Rattle.promises.specs.Promises.{Passed, Every}
 use Rattle.laws.specs.Refusals.{fails, all-yes}
 use Rattle.laws.specs.InRange.{in-range}
 use Rattle.laws.specs.Strings.{at-minus}

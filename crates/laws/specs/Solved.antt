@@ -14,7 +14,7 @@ use Rattle.model.specs.Differences.{at}
 use Rattle.model.specs.State.{State, Neck, Forces, PointsAndFinger}
 use Rattle.model.specs.Step.{system, gradients, moves, workedStep, nextState}
 use Rattle.model.specs.declared.Setup.{Setup}
-use Rattle.laws.specs.Promises.{Solves, Demand2}
+use Rattle.promises.specs.Promises.{Solves, Demand2}
 use Rattle.laws.specs.Strings.{_spans_, spans-plus, spans-minus, spans-times, at-plus, at-minus, at-times}
 use Rattle.laws.specs.Nearest.{unique}
 use Rattle.laws.specs.System.{rounded₁-unique, rounded₂-unique}

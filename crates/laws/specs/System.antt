@@ -7,7 +7,7 @@ use Rattle.integers.specs.Derive.{≡-from, _⊹_, _⊙_}
 use Rattle.integers.specs.Order.{≤-trans, ≤-sum, ≤-times, ≤-of-eq, <-≤, nonneg, cancel-≤}
 use Rattle.integers.specs.Size.{size, size-add, size-mul, size-nonneg}
 use Rattle.model.specs.System.{System, det, det₁, det₂, rounded₁, rounded₂, residual₁, residual₂}
-use Rattle.laws.specs.Promises.{IsNearest, IsRounded}
+use Rattle.promises.specs.Promises.{IsNearest, IsRounded}
 use Rattle.laws.specs.Nearest.{nearest-is, unique, same-fraction}
 
 module _ (t : System) (regular : pos 0 <ℤ det t) where

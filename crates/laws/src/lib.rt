@@ -1,1 +1,1 @@
-// Theorems about the model; no code. The statements are in specs/Promises.antt, their proofs are gathered in specs/Demands.antt.
+// Proofs of the promises; no code. They are gathered in specs/Demands.antt.

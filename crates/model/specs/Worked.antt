@@ -1,18 +1,31 @@
 -- A worked step in which every term of 01's equations counts: M, S and Z above 0, newer and older string apart, contact on the neck and under
 -- the finger, contact variables of both signs. The numbers are from an implementation in exact fractions that was written from 01.
 use mathlib.Core.Path.{_≡_, refl}
+use mathlib.Core.Bool.{Bool, true, false}
 use mathlib.Core.List.{List, [], _∷_, _++_, zipWith}
-use lib.IntN.{ℤ, pos, negℤ}
+use Prim.Native.Nat.{ℕ}
+use lib.IntN.{ℤ, pos, negsuc, negℤ}
+use lib.Ieee.{Float, nan, fin, round}
+use lib.ListN.{replicate}
 use Rattle.integers.specs.Sum.{sum}
+use Rattle.model.specs.Ranges.{between, inside, displacementOk, contactOk, forceOk, heightOk}
+use Rattle.model.specs.Refusal.{accepted, refused}
+use Rattle.model.specs.Setup.{setupRules, placeOk, lengthOk}
 use Rattle.model.specs.Differences.{plus, minus, times, D1, dot, E}
 use Rattle.model.specs.Gradient.{gradient, root, greatest}
 use Rattle.model.specs.Rounding.{nearest, floor}
 use Rattle.model.specs.System.{rounded₁, rounded₂}
-use Rattle.model.specs.State.{State, Neck, PointsAndFinger}
-use Rattle.model.specs.Step.{gradients, moves, workedStep, nextState, WorkedStep, A, c, system}
+use Rattle.model.specs.State.{State, Lent, stateOf, put, Neck, PointsAndFinger}
+use Rattle.model.specs.Neck.{neckRules, laid, lay}
+use Rattle.model.specs.Start.{startRules, fresh, start}
+use Rattle.model.specs.Step.{gradients, moves, workedStep, nextState, WorkedStep, A, c, system, callRules, resultRules, stepRules, frame, step}
 use Rattle.model.specs.Energy.{storedEnergy, loss, work, residuals, limits, dotAll, roundingWork, roundingLimit}
+use Rattle.model.specs.Fraction.{fraction}
+use Rattle.model.specs.Block.{block, blockRules, play}
+use Rattle.model.specs.Reading.{reading, readingRules}
 use Rattle.model.specs.Bench.{finger, forces}
 use Rattle.model.specs.declared.Setup.{Setup}
+use Rattle.model.specs.declared.Reading.the-variants.{Free, Pressed}
 
 setup : Setup
 setup = record {
@@ -82,3 +95,49 @@ sums-are = refl
 energies-are : storedEnergy setup before ∷ storedEnergy setup after ∷ [] ≡ pos 46820454 ∷ pos 43440616 ∷ []
 unfolding setup before after storedEnergy minus zipWith D1 dot E sum
 energies-are = refl
+
+-- ---- the other operations, on the same setup
+
+-- floats ±m / 1,048,576, m odd, and 32 / 1,048,576
+over : Bool → ℕ → Float
+over sign m = fin sign m (negsuc 19)
+
+-- frets at places 2 and 4
+laid-is : lay setup (record { board = negℤ (pos 10) ∷ negℤ (pos 20) ∷ negℤ (pos 30) ∷ negℤ (pos 40) ∷ []; boardStiffness = 100; frets = 2 ∷ 4 ∷ []; tip = negℤ (pos 5); fretStiffness = 900 }) (replicate 4 (pos 7)) (replicate 4 7)
+    ≡ record { answer = accepted tt; heights = negℤ (pos 10) ∷ negℤ (pos 5) ∷ negℤ (pos 30) ∷ negℤ (pos 5) ∷ []; stiffness = 100 ∷ 900 ∷ 100 ∷ 900 ∷ [] }
+unfolding setup lay neckRules laid setupRules placeOk lengthOk between inside heightOk
+laid-is = refl
+
+-- a tip below the board: no buffer changes
+not-laid-is : lay setup (record { board = replicate 4 (pos 0); boardStiffness = 100; frets = 2 ∷ []; tip = negℤ (pos 1); fretStiffness = 900 }) (replicate 4 (pos 7)) (replicate 4 7)
+    ≡ record { answer = refused 9; heights = replicate 4 (pos 7); stiffness = replicate 4 7 }
+unfolding setup lay neckRules laid setupRules placeOk lengthOk between inside heightOk
+not-laid-is = refl
+
+-- a fresh start over buffers that hold anything
+started-is : start setup (replicate 4 (pos 7)) (replicate 4 (pos 8)) (replicate 4 (pos 9)) (pos 5) (negℤ (pos 6))
+    ≡ record { answer = accepted record { turn = 0; finger = finger (pos 5) (negℤ (pos 6)) (pos 0) }; first = replicate 4 (pos 0); second = replicate 4 (pos 0); contact = replicate 4 (pos 0) }
+unfolding setup start startRules fresh setupRules placeOk lengthOk between inside displacementOk
+started-is = refl
+
+-- the voice before the worked step, at turn 7: the second buffer is newer
+lent : Lent
+lent = record { first = before .older; second = before .newer; contact = before .contact; turn = 7; finger = before .finger }
+
+-- a block of three steps, the second with a force out of range
+played-is : block setup neck lent (pos 12345 ∷ negℤ (pos 6789) ∷ pos 2000000000 ∷ pos 0 ∷ pos 0 ∷ pos 0 ∷ []) (replicate 6 nan)
+    ≡ record {
+      count = 1;
+      refusal = 12;
+      lent = record { first = after .newer; second = before .newer; contact = after .contact; turn = 0; finger = after .finger };
+      samples = fin true 11 (negsuc 18) ∷ over true 19 ∷ replicate 4 nan;
+    }
+unfolding setup neck before after lent over block blockRules play step stepRules callRules resultRules setupRules placeOk lengthOk between inside heightOk displacementOk contactOk forceOk stateOf put workedStep nextState frame fraction round
+    gradients gradient root greatest moves A c system rounded₁ rounded₂ nearest floor plus minus times zipWith D1
+played-is = refl
+
+-- place 1 is pressed to the depth −5 + 37, place 2 is free, and so is a string that just touches
+readings-are : reading setup (neck .heights) (lent .first) (lent .second) 7 1 ∷ reading setup (neck .heights) (lent .first) (lent .second) 7 2 ∷ reading setup (replicate 4 (negℤ (pos 37))) (lent .first) (lent .second) 7 1 ∷ []
+    ≡ Pressed (over true 37) (fin false 1 (negsuc 14)) ∷ Free (fin false 11 (negsuc 18)) ∷ Free (over true 37) ∷ []
+unfolding setup neck before lent over reading readingRules setupRules placeOk lengthOk between inside heightOk displacementOk fraction round
+readings-are = refl

@@ -1,4 +1,4 @@
--- What is promised of the model, as statements only, in document 01's terms. `Demands` proves each; the other files lead there.
+-- What is promised of the model, as statements only, in document 01's terms. Crate `laws` proves each in its file Demands.
 use mathlib.Core.Path.{_≡_}
 use mathlib.Core.Bool.{true, not}
 use mathlib.Core.Logic.{_≢_, _⊎_}

@@ -1,0 +1,188 @@
+-- Closed instances of the promises, by computation alone: the hypotheses of demand 3 hold together, and each claim holds where it is tight, so
+-- that a stronger or another claim is false there.
+use mathlib.Core.Path.{_≡_, refl, sym, _∙_, ap}
+use mathlib.Core.Logic.{inl}
+use mathlib.Core.Bool.{true, false, not}
+use mathlib.Core.List.{List, [], _∷_, zipWith}
+use Prim.Native.Nat.{ℕ, zero, suc}
+use native.Mathlib.Omega.{arith}
+use lib.Dec.{T, ltb, eqb}
+use lib.IntN.{ℤ, pos, negsuc, negℤ, natAbs}
+use lib.Signed.{leZ-yes, ltZ-yes}
+use lib.Ieee.{nan, fin, round}
+use lib.ListN.{replicate}
+use mir.Facts.{eqb-no}
+use Rattle.model.specs.Fraction.{fraction}
+use Rattle.model.specs.Reading.{readingRules, reading}
+use Rattle.integers.specs.Sum.{sum}
+use Rattle.model.specs.Ranges.{between, inside, displacementOk, contactOk, forceOk, heightOk}
+use Rattle.model.specs.Setup.{setup, setupRules, placeOk, lengthOk}
+use Rattle.model.specs.Differences.{at, plus, minus, times, D1, dot, E}
+use Rattle.model.specs.Gradient.{gradient, root, greatest}
+use Rattle.model.specs.Rounding.{nearest, floor}
+use Rattle.model.specs.System.{System, rounded₁, rounded₂}
+use Rattle.model.specs.State.{State, Lent, stateOf, put, Neck, Forces}
+use Rattle.model.specs.Step.{gradients, A, c, system, moves, workedStep, nextState, callRules, resultRules, stepRules, frame, step}
+use Rattle.model.specs.Energy.{storedEnergy, dotAll, loss, work, residuals, limits, roundingWork, roundingLimit}
+use Rattle.model.specs.Run.{Voice, history, acceptedSteps, voiceAfter, sumOver}
+use Rattle.model.specs.Bench.{benchSetup, flatNeck, finger, onePoint, forces}
+use Rattle.model.specs.declared.Setup.{Setup}
+use Rattle.promises.specs.Promises.{IsNearest, IsRounded, Solves, Run, flips, frameSamples, Plays, Reads}
+
+-- ---- rounding
+
+-- 2048 / 4096 is a tie, and goes to 1; −2048 / 4096 to 0
+tie-up : IsNearest (pos 2048) (pos 4096) (pos 1)
+tie-up = record { near = leZ-yes tt; tie = λ q. ltZ-yes tt }
+
+tie-up-below : IsNearest (negℤ (pos 2048)) (pos 4096) (pos 0)
+tie-up-below = record { near = leZ-yes tt; tie = λ q. ltZ-yes tt }
+
+-- 2·x + 3·y = 5 and −x + 4·y = 8: x = −4/11, y = 21/11
+pair : System
+pair = record { a₁₁ = pos 2; a₁₂ = pos 3; a₂₁ = negℤ (pos 1); a₂₂ = pos 4; b₁ = pos 5; b₂ = pos 8 }
+
+pair-rounded : IsRounded pair (pos 0) (pos 2)
+unfolding pair
+pair-rounded = record {
+  D = pos 11;
+  X = negℤ (pos 4);
+  Y = pos 21;
+  positive = ltZ-yes tt;
+  row₁ = refl;
+  row₂ = refl;
+  near₁ = record { near = leZ-yes tt; tie = λ q. ltZ-yes tt };
+  near₂ = record { near = leZ-yes tt; tie = λ q. ltZ-yes tt };
+}
+
+-- ---- demand 2
+
+-- N = 3, the finger at place 2, the pluck at place 1, contact at place 1 and under the finger; the numbers are computed from 01 in exact fractions
+abbrev three : Setup
+three = record {
+  segments = 3;
+  tension = 1000;
+  stiffness = 200;
+  viscous = 100;
+  plain = 10;
+  finger = record { place = 2; stiffness = 300; mass = 500 };
+  «pluck_place» = 1;
+  «bridge_place» = 1;
+  «neck_place» = 2;
+}
+
+abbrev threeNeck : Neck
+threeNeck = record { heights = pos 0 ∷ negℤ (pos 50) ∷ []; stiffness = 20000 ∷ 300 ∷ [] }
+
+abbrev x : State
+x = record { newer = negℤ (pos 25) ∷ pos 30 ∷ []; older = negℤ (pos 31) ∷ pos 22 ∷ []; contact = pos 400 ∷ negℤ (pos 70) ∷ []; finger = finger (pos 12) (pos 15) (negℤ (pos 20)) }
+
+abbrev y : State
+y = record { newer = negℤ (pos 22) ∷ pos 176 ∷ []; older = negℤ (pos 25) ∷ pos 30 ∷ []; contact = negℤ (pos 1184) ∷ negℤ (pos 70) ∷ []; finger = finger (pos 2602) (pos 12) (negℤ (pos 41381)) }
+
+-- no tie
+apart : {a b : ℤ} {C : Type 0} → a ≡ b → T (not (eqb (natAbs a) (natAbs b))) → C
+apart {a} {b} q t = absurd (eqb-no t (ap natAbs q))
+
+-- what holds at places 0, 1, 2 and past them holds at every place
+by-place : (P : ℕ → Type 0) → P 0 → P 1 → P 2 → ((k : ℕ) → P (suc (suc (suc k)))) → (i : ℕ) → P i
+by-place P a b c d zero = a
+by-place P a b c d (suc zero) = b
+by-place P a b c d (suc (suc zero)) = c
+by-place P a b c d (suc (suc (suc k))) = d k
+
+solved : Solves three x (gradients three threeNeck x) (forces (pos 5000) (pos 2000000)) y
+unfolding gradients gradient root greatest A c system minus zipWith D1
+solved = record {
+  length-newer = refl;
+  length-contact = refl;
+  older = refl;
+  finger-older = refl;
+  away = by-place _ (λ h l d. absurd (omega arith)) (λ h l d. record { near = leZ-yes tt; tie = λ q. apart q tt }) (λ h l d. absurd (d refl)) (λ k h l d. absurd (omega arith));
+  at-finger = record {
+    D = pos 3384134;
+    X = pos 521876904;
+    Y = pos 8753658824;
+    positive = ltZ-yes tt;
+    row₁ = refl;
+    row₂ = refl;
+    near₁ = record { near = leZ-yes tt; tie = λ q. apart q tt };
+    near₂ = record { near = leZ-yes tt; tie = λ q. apart q tt };
+  };
+  contact = by-place _ refl refl refl (λ k. refl);
+  finger-contact = refl;
+}
+
+-- ---- demand 3
+
+abbrev voice : (L M S Z K : ℕ) (w' : ℤ) → Voice
+voice L M S Z K w' = record { setup = benchSetup L M S Z K; lent = onePoint (pos 0) (pos 0) (pos 0) 0 (finger (pos 0) w' (pos 0)) }
+
+none : Forces
+none = forces (pos 0) (pos 0)
+
+equal : {a b : ℤ} (n : ℤ) → a ≡ n → b ≡ n → a ≡ b
+equal n p q = p ∙ sym q
+
+-- a force that is not 0
+forced : {f : ℤ} {C : Type 0} → f ≡ pos 0 → T (ltb 0 (natAbs f)) → C
+forced {f} q t = absurd (rw q at t)
+
+runs :
+    -- at rest the energy is 0
+    Run (flatNeck 0) (voice 4096 0 0 0 0 (pos 0)) []
+    -- a pluck of 2048 is a tie: its doubled residual and its rounding work reach their limits
+    × Run (flatNeck 0) (voice 4096 0 0 0 0 (pos 0)) (forces (pos 2048) (pos 0) ∷ [])
+    -- with losses, and a refused step in between
+    × Run (flatNeck 0) (voice 100 10 50 100 0 (pos 0)) (forces (pos 409600) (pos 777) ∷ forces (pos 2000000000) (pos 0) ∷ none ∷ [])
+    -- lossless and unforced: the finger strikes the string, and rounding changes the stored energy, 524,288, by 512
+    × Run (flatNeck 0) (voice 1 0 0 0 65535 (pos 8)) (none ∷ none ∷ none ∷ [])
+unfolding none history voiceAfter acceptedSteps sumOver stateOf put storedEnergy loss work residuals limits roundingWork roundingLimit dotAll step stepRules callRules resultRules setupRules placeOk lengthOk between inside heightOk displacementOk contactOk forceOk
+    workedStep gradients gradient root greatest moves A c system rounded₁ rounded₂ nearest floor nextState frame plus minus times zipWith D1 dot E sum
+runs = (
+  record { never-negative = leZ-yes tt; exact = refl; limited = tt; bounded = leZ-yes tt; conserved = λ l u. leZ-yes tt },
+  record { never-negative = leZ-yes tt; exact = equal (pos 8192) refl refl; limited = (record { points = (leZ-yes tt, tt); finger = leZ-yes tt }, tt); bounded = leZ-yes tt; conserved = λ l u. forced (u .0 .pluck) tt },
+  record {
+    never-negative = leZ-yes tt;
+    exact = equal (pos 67073020) refl refl;
+    limited = (record { points = (leZ-yes tt, tt); finger = leZ-yes tt }, (record { points = (leZ-yes tt, tt); finger = leZ-yes tt }, tt));
+    bounded = leZ-yes tt;
+    conserved = λ l u. forced (u .0 .pluck) tt;
+  },
+  record {
+    never-negative = leZ-yes tt;
+    exact = equal (pos 524800) refl refl;
+    limited = (record { points = (leZ-yes tt, tt); finger = leZ-yes tt }, (record { points = (leZ-yes tt, tt); finger = leZ-yes tt }, (record { points = (leZ-yes tt, tt); finger = leZ-yes tt }, tt)));
+    bounded = leZ-yes tt;
+    conserved = λ l u. leZ-yes tt;
+  },
+)
+
+-- ---- a block and a reading
+
+-- the voice of x, at turn 0
+abbrev lent : Lent
+lent = record { first = x .newer; second = x .older; contact = x .contact; turn = 0; finger = x .finger }
+
+-- the step above, then one with a force out of range
+abbrev two : List Forces
+two = forces (pos 5000) (pos 2000000) ∷ forces (pos 2000000000) (pos 0) ∷ []
+
+played : Plays threeNeck (record { setup = three; lent = lent }) two (replicate 4 nan) record {
+  count = 1;
+  refusal = 12;
+  lent = record { first = x .newer; second = y .newer; contact = y .contact; turn = 1; finger = y .finger };
+  samples = fin true 11 (negsuc 18) ∷ fin false 11 (negsuc 15) ∷ replicate 2 nan;
+}
+unfolding history voiceAfter acceptedSteps flips frameSamples stateOf put step stepRules callRules resultRules setupRules placeOk lengthOk between inside heightOk displacementOk contactOk forceOk
+    workedStep gradients gradient root greatest moves A c system rounded₁ rounded₂ nearest floor nextState frame fraction round plus minus times zipWith D1
+played = record { calls = history threeNeck (record { setup = three; lent = lent }) (forces (pos 5000) (pos 2000000) ∷ []); run = refl; count = refl; turn = refl; lent = refl; samples = refl; stops = (refl, inl refl) }
+
+-- place 1 is pressed to the depth 25, place 2 is free
+pressed : Reads (negℤ (pos 25)) (pos 25) 0 (reading three (threeNeck .heights) (lent .first) (lent .second) 0 1)
+unfolding reading readingRules setupRules placeOk lengthOk between inside heightOk displacementOk fraction round
+pressed = (refl, ltZ-yes tt, (refl, refl), (refl, refl))
+
+free : Reads (pos 30) (negℤ (pos 80)) 0 (reading three (threeNeck .heights) (lent .first) (lent .second) 0 2)
+unfolding reading readingRules setupRules placeOk lengthOk between inside heightOk displacementOk fraction round
+free = (refl, leZ-yes tt, (refl, refl))
