@@ -9,7 +9,7 @@ use mir.Facts.{and-yes, T-not-not, leb-yes, ltb-no, eqb-yes}
 use Rattle.model.specs.Ranges.{between}
 use Rattle.model.specs.Refusal.{Rule, accepted, refused}
 use Rattle.model.specs.Setup.{L, M, S, m, p, e, points, placeOk, lengthOk, setupRules}
-use Rattle.model.specs.State.{State, Lent, byTurn, stateOf, put, Neck, Forces}
+use Rattle.model.specs.State.{State, Lent, byTurn, newest, stateOf, put, Neck, Forces}
 use Rattle.model.specs.Step.{workedStep, nextState, buffersRule, callRules, resultRules, stepRules, frame, StepResult, step}
 use Rattle.model.specs.Start.{startRules, StartResult, start, fresh}
 use Rattle.model.specs.declared.Setup.{Setup}
@@ -61,7 +61,7 @@ examined s neck x rules h =
 -- ---- a step
 
 -- from the state x with the forces F to the state y
-pub record AcceptedStep (s : Setup) (neck : Neck) (x : State) (F : Forces) (y : State) : Type 0 where
+pub record Stepped (s : Setup) (neck : Neck) (x : State) (F : Forces) (y : State) : Type 0 where
   pub passed : Passed (stepRules s neck x F)
   pub examined : Examined s neck x
   pub result : y ≡ nextState (workedStep s neck x F)
@@ -89,7 +89,7 @@ module _ (s : Setup) (neck : Neck) (v : Lent) (F : Forces) where
   unfolding step stepRules callRules resultRules setupRules
   step-accepted = accepted-by (λ r. r .answer) (stepRules s neck (stateOf v) F) tt resultMade _ (λ n. refl)
 
-  pub accepted-step : (f : Frame) → step s neck v F .answer ≡ accepted f → AcceptedStep s neck (stateOf v) F (stateOf (step s neck v F .lent))
+  pub accepted-step : (f : Frame) → step s neck v F .answer ≡ accepted f → Stepped s neck (stateOf v) F (stateOf (step s neck v F .lent))
   unfolding stepRules callRules setupRules nextState workedStep
   accepted-step f e =
       let (h, r) = step-accepted f e in
@@ -99,6 +99,16 @@ module _ (s : Setup) (neck : Neck) (v : Lent) (F : Forces) where
 pub step-refused : (s : Setup) (neck : Neck) (v : Lent) (F : Forces) (n : ℕ) → step s neck v F .answer ≡ refused n → step s neck v F .lent ≡ v
 unfolding step stepRules callRules resultRules setupRules
 step-refused s neck v F = by-table (stepRules s neck (stateOf v) F) tt (resultMade s neck v F) _ (λ (r : StepResult). (n : ℕ) → r .answer ≡ refused n → r .lent ≡ v) (λ h n q. never-both q refl) (λ k h n q. refl)
+
+-- the buffer that an accepted step does not write
+pub step-untouched : (s : Setup) (neck : Neck) (v : Lent) (F : Forces) (f : Frame) → step s neck v F .answer ≡ accepted f
+    → newest (v .turn) (step s neck v F .lent .first) (step s neck v F .lent .second) ≡ newest (v .turn) (v .first) (v .second)
+unfolding put
+step-untouched s neck v F f h = ap (λ r. newest (v .turn) (r .lent .first) (r .lent .second)) (step-accepted s neck v F f h .1) ∙ go (v .turn) (stateMade s neck v F .newer)
+  where
+    go : (n : ℕ) (u : List ℤ) → newest n (byTurn n (v .first) u) (byTurn n u (v .second)) ≡ newest n (v .first) (v .second)
+    go zero u = refl
+    go (suc n) u = refl
 
 -- the turn of an accepted step is flipped
 pub step-turn : (s : Setup) (neck : Neck) (v : Lent) (F : Forces) (f : Frame) → step s neck v F .answer ≡ accepted f → step s neck v F .lent .turn ≡ byTurn (v .turn) 1 0

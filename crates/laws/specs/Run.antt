@@ -22,7 +22,7 @@ use Rattle.promises.specs.Promises.{Every, WithinLimits, Unforced, Claims, Run}
 use Rattle.laws.specs.Strings.{_spans_, length-zip, spans-plus, spans-minus, dot-size}
 use Rattle.laws.specs.Balance.{Fit, balance}
 use Rattle.laws.specs.Positive.{energy-nonneg}
-use Rattle.laws.specs.Accepted.{Sound, Examined, AcceptedStep, step-accepted, accepted-step, step-refused, Fitting, spans-newer, spans-older}
+use Rattle.laws.specs.Accepted.{Sound, Examined, Stepped, step-accepted, accepted-step, step-refused, Fitting, spans-newer, spans-older}
 use Rattle.laws.specs.Moves.{moves-nearest}
 use Rattle.laws.specs.Limits.{within-at, within-limits}
 
@@ -55,7 +55,7 @@ fit {s} {neck} {x} F h = record {
 }
 
 -- what an accepted step from x to y gives
-module _ {s : Setup} {neck : Neck} {x : State} {F : Forces} {y : State} (h : AcceptedStep s neck x F y) where
+module _ {s : Setup} {neck : Neck} {x : State} {F : Forces} {y : State} (h : Stepped s neck x F y) where
   step-balance : let t = workedStep s neck x F in storedEnergy s y ≡ storedEnergy s x +ℤ work t -ℤ loss t +ℤ roundingWork t
   unfolding workedStep
   step-balance = rw (h .result) (balance (workedStep s neck x F) (fit F (h .examined)))

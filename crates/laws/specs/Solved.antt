@@ -2,29 +2,34 @@
 use mathlib.Core.Path.{_≡_, refl, sym, _∙_, ap, ap₂}
 use mathlib.Core.Bool.{Bool, true, false}
 use mathlib.Core.Logic.{_≢_}
-use Prim.Native.Nat.{ℕ, suc, _≤_, zero-le, suc-le-suc}
+use mathlib.Core.List.{List, [], _∷_, zipWith}
+use Prim.Native.Nat.{ℕ, zero, suc, _≤_, _<_, zero-le, suc-le-suc}
+use native.Mathlib.Omega.{arith}
 use lib.Dec.{eqb}
 use lib.IntN.{ℤ, pos, _+ℤ_, _-ℤ_, _*ℤ_}
+use lib.ListN.{length, getD}
 use lib.Seq.{ext-getD}
 use mir.Facts.{eqb-yes, eqb-no}
 use Rattle.integers.specs.Solve.{_⊕_, _⊖_, _≐_, solve}
 use Rattle.integers.specs.Derive.{≡-from}
-use Rattle.model.specs.Setup.{p, points}
-use Rattle.model.specs.Differences.{at}
+use Rattle.model.specs.Setup.{K, p, points}
+use Rattle.model.specs.Differences.{at, minus}
+use Rattle.model.specs.Gradient.{gradient}
 use Rattle.model.specs.State.{State, Neck, Forces, PointsAndFinger}
 use Rattle.model.specs.Step.{system, gradients, moves, workedStep, nextState}
 use Rattle.model.specs.declared.Setup.{Setup}
-use Rattle.promises.specs.Promises.{Solves, Demand2}
+use Rattle.promises.specs.Promises.{IsGradient, AreGradients, Solves, Demand2}
 use Rattle.laws.specs.Strings.{_spans_, spans-plus, spans-minus, spans-times, at-plus, at-minus, at-times}
 use Rattle.laws.specs.Nearest.{unique}
 use Rattle.laws.specs.System.{rounded₁-unique, rounded₂-unique}
-use Rattle.laws.specs.Accepted.{Sound, AcceptedStep, accepted-step, step-turn}
+use Rattle.laws.specs.Gradient.{gradient-is}
+use Rattle.laws.specs.Accepted.{Sound, Stepped, Examined, accepted-step, step-turn, step-untouched}
 use Rattle.laws.specs.Moves.{A-positive, det-positive, moves-nearest}
 use Rattle.laws.specs.Run.{fit}
 
 -- ---- it solves them
 
-module _ {s : Setup} {neck : Neck} {x : State} {F : Forces} {y : State} (h : AcceptedStep s neck x F y) where
+module _ {s : Setup} {neck : Neck} {x : State} {F : Forces} {y : State} (h : Stepped s neck x F y) where
   G : PointsAndFinger
   G = gradients s neck x
 
@@ -109,5 +114,30 @@ module _ {s : Setup} {x : State} {G : PointsAndFinger} {F : Forces} {y z : State
     finger = record { newer = same-height i; older = (hy .finger-older ∙ sym (hz .finger-older)) i; contact = same-finger-contact i };
   }
 
+-- ---- its gradients are 01's
+
+zip-gradients : (ks : List ℕ) (ds : List ℤ) → length ks ≡ length ds → (k : ℕ) → k < length ks → IsGradient (getD ks k 0) (at ds (suc k)) (at (zipWith gradient ks ds) (suc k))
+unfolding zipWith
+zip-gradients [] ds q k h = absurd (omega arith)
+zip-gradients (n ∷ ks) [] q k h = absurd (omega arith)
+zip-gradients (n ∷ ks) (d ∷ ds) q zero h = gradient-is n d
+zip-gradients (n ∷ ks) (d ∷ ds) q (suc k) h = zip-gradients ks ds (omega arith) k (omega arith)
+
+are-gradients : {s : Setup} {neck : Neck} {x : State} (F : Forces) → Examined s neck x → AreGradients s neck x (gradients s neck x)
+unfolding gradients workedStep
+are-gradients {s} {neck} {x} F h = record {
+  length-points = fit F h .gradients .long;
+  point = λ k l. rw (← at-minus (h .heights) (h .newer) (suc k)) (zip-gradients (neck .stiffness) (minus (neck .heights) (x .newer)) (h .stiffness ∙ sym (spans-minus (h .heights) (h .newer) .long)) k (rw (h .stiffness) l));
+  finger = gradient-is (K s) (at (x .newer) (p s) -ℤ x .finger .newer);
+}
+
 pub step-solves : Demand2
-step-solves s neck v F f q = let h = accepted-step s neck v F f q in (solves h, λ y k. solves-unique (h .examined .setup) k (solves h), step-turn s neck v F f q)
+step-solves s neck v F f q =
+    let h = accepted-step s neck v F f q in
+    record {
+      gradient = are-gradients F (h .examined);
+      solves = solves h;
+      unique = λ y k. solves-unique (h .examined .setup) k (solves h);
+      flipped = step-turn s neck v F f q;
+      untouched = step-untouched s neck v F f q;
+    }

@@ -8,13 +8,13 @@ use lib.Dec.{T}
 use lib.IntN.{ℤ, pos, natAbs, _+ℤ_, _-ℤ_, _*ℤ_}
 use lib.Signed.{_≤ℤ_, _<ℤ_}
 use lib.Ieee.{Float}
-use lib.ListN.{length, take, drop}
+use lib.ListN.{length, take, drop, getD}
 use Rattle.integers.specs.Size.{size}
 use Rattle.model.specs.Refusal.{Rule, _when_, firstOf, Answer, accepted, refused}
-use Rattle.model.specs.Setup.{N, p, points, setup, setupRules}
+use Rattle.model.specs.Setup.{N, K, p, points, setup, setupRules}
 use Rattle.model.specs.Differences.{at}
 use Rattle.model.specs.System.{System}
-use Rattle.model.specs.State.{State, Lent, byTurn, stateOf, Neck, Forces, PointsAndFinger}
+use Rattle.model.specs.State.{State, Lent, byTurn, newest, stateOf, Neck, Forces, PointsAndFinger}
 use Rattle.model.specs.Neck.{Plan, neckRules, lay}
 use Rattle.model.specs.Start.{startRules, start}
 use Rattle.model.specs.Step.{A, c, system, gradients, WorkedStep, stepRules, step}
@@ -93,6 +93,12 @@ pub record IsGradient (k : ℕ) (d r : ℤ) : Type 0 where
   pub free : d ≤ℤ pos 0 → r ≡ pos 0
   pub contact : pos 0 <ℤ d → (n : ℕ) × ((r ≡ pos n) × IsRoot (min 1023 (k * natAbs d / 1024)) n)
 
+-- G holds the gradients of a state on a neck: of each point for its depth height − u, of the finger for its depth u(p) − w
+pub record AreGradients (s : Setup) (neck : Neck) (x : State) (G : PointsAndFinger) : Type 0 where
+  pub length-points : length (G .points) ≡ points s
+  pub point : (k : ℕ) → k < points s → IsGradient (getD (neck .stiffness) k 0) (at (neck .heights) (suc k) -ℤ at (x .newer) (suc k)) (at (G .points) (suc k))
+  pub finger : IsGradient (K s) (at (x .newer) (p s) -ℤ x .finger .newer) (G .finger)
+
 -- ---- demand 2: an accepted step solves the equations
 
 -- the step from x to y: G the gradients of x, F the forces; the moves δ and δw are read off the two states
@@ -110,11 +116,18 @@ pub record Solves (s : Setup) (x : State) (G : PointsAndFinger) (F : Forces) (y 
   pub finger-contact : y .finger .contact
       ≡ x .finger .contact +ℤ G .finger *ℤ ((at (y .newer) (p s) -ℤ at (x .older) (p s)) -ℤ (y .finger .newer -ℤ x .finger .older))
 
--- the state after an accepted step solves them, and no other state does; the turn is flipped to 1 or 0
+-- what is claimed of an accepted step from the lent buffers v to v'
+pub record AcceptedStep (s : Setup) (neck : Neck) (v : Lent) (F : Forces) (v' : Lent) : Type 0 where
+  pub gradient : AreGradients s neck (stateOf v) (gradients s neck (stateOf v))
+  -- the state after it solves the equations, and no other state does
+  pub solves : Solves s (stateOf v) (gradients s neck (stateOf v)) F (stateOf v')
+  pub unique : (y : State) → Solves s (stateOf v) (gradients s neck (stateOf v)) F y → y ≡ stateOf v'
+  -- the new string lies over the older buffer, and the newer buffer is untouched: the turn is flipped to 1 or 0
+  pub flipped : v' .turn ≡ byTurn (v .turn) 1 0
+  pub untouched : newest (v .turn) (v' .first) (v' .second) ≡ newest (v .turn) (v .first) (v .second)
+
 abbrev pub Demand2 : Type 0
-Demand2 = (s : Setup) (neck : Neck) (v : Lent) (F : Forces) (f : Frame) → let r = step s neck v F in r .answer ≡ accepted f
-    → let Step = Solves s (stateOf v) (gradients s neck (stateOf v)) F in
-    Step (stateOf (r .lent)) × ((y : State) → Step y → y ≡ stateOf (r .lent)) × (r .lent .turn ≡ byTurn (v .turn) 1 0)
+Demand2 = (s : Setup) (neck : Neck) (v : Lent) (F : Forces) (f : Frame) → step s neck v F .answer ≡ accepted f → AcceptedStep s neck v F (step s neck v F .lent)
 
 -- ---- demand 3: the energy of a run
 
