@@ -13,11 +13,13 @@ use Rattle.integers.specs.Sum.{sum-linear, bend}
 use Rattle.model.specs.Setup.{L, M, S, Z, m, p, e, points}
 use Rattle.model.specs.Differences.{at, plus, minus, times, D1, D2, dot, E}
 use Rattle.model.specs.System.{residual₁}
-use Rattle.model.specs.State.{State, Forces, PointsAndFinger}
-use Rattle.model.specs.Step.{A, c, system, WorkedStep, nextState}
+use Rattle.model.specs.State.{State, Neck, Forces, PointsAndFinger}
+use Rattle.model.specs.Gradient.{gradient}
+use Rattle.model.specs.Step.{gradients, A, c, system, moves, WorkedStep, workedStep, nextState}
 use Rattle.model.specs.Energy.{storedEnergy, work, loss, dotAll, residuals, roundingWork}
 use Rattle.model.specs.declared.Setup.{Setup}
-use Rattle.laws.specs.Strings.{_spans_, spans-plus, spans-minus, spans-times, at-plus, at-minus, at-times, form, form-comm, form-plus, square-minus, own, rise, own-linear, rise-linear, bend-linear, _·_, dot-form, E-form, D1-form, parts, parts₂, dot-only}
+use Rattle.laws.specs.Accepted.{Examined}
+use Rattle.laws.specs.Strings.{_spans_, length-zip, spans-plus, spans-minus, spans-times, at-plus, at-minus, at-times, form, form-comm, form-plus, square-minus, own, rise, own-linear, rise-linear, bend-linear, _·_, dot-form, E-form, D1-form, parts, parts₂, dot-only}
 
 -- ---- what a move d does to each sum of the energy: the new string is v + d, the new contact variables ψ − γ·d
 
@@ -159,3 +161,15 @@ module _ (t : WorkedStep) (fit : Fit t) where
       ⊕ (⊝ (g ⊗ g) ⊗ dp ⊕ (m ⊕ g ⊗ g) ⊗ y ⊖ (# 2 ⊗ m ⊗ (w ⊖ w') ⊕ f ⊕ # 2 ⊗ g ⊗ φ)) ⊗ y)) tt
       (pos (L s)) (pos (M s)) (pos (S s)) (pos (Z s)) (pos (m s)) (G .finger) (x .finger .contact) (x .finger .newer) (x .finger .older) (δ .finger) (F .pluck) (F .finger) (at d (e s)) (at d (p s))
       (dot d d) (dot d a) (dot a a) (E u (x .older)) (dot d (D1 u)) (dot (D1 u) (D1 (x .older))) (dot d (D2 u)) (E d d) (dot d (D1 a)) (E a a) (dot (x .contact) (x .contact)) (dot (x .contact) γd) (dot γd γd))
+
+-- ---- the lists fit where rules 1 to 6 are passed
+
+pub fit : {s : Setup} {neck : Neck} {x : State} (F : Forces) → Examined s neck x → Fit (workedStep s neck x F)
+unfolding workedStep gradients moves
+fit {s} {neck} {x} F h = record {
+  newer = h .newer;
+  older = h .older;
+  contact = h .contact;
+  gradients = record { long = length-zip gradient (neck .stiffness) (minus (neck .heights) (x .newer)) (h .stiffness ∙ sym (spans-minus (h .heights) (h .newer) .long)) ∙ h .stiffness };
+  moves = record { long = length-tabulate (points s) _ };
+}

@@ -13,9 +13,11 @@ use Rattle.integers.specs.Order.{≤-refl, ≤-trans, ≤-of-eq, nonneg, square
 use Rattle.integers.specs.Size.{size, size-neg, size-nonneg}
 use Rattle.model.specs.Setup.{m, p, points}
 use Rattle.model.specs.Differences.{at}
-use Rattle.model.specs.System.{residual₁}
+use Rattle.model.specs.System.{System, residual₁}
+use Rattle.model.specs.State.{PointsAndFinger}
 use Rattle.model.specs.Step.{A, c, system, WorkedStep}
 use Rattle.model.specs.Energy.{residuals, limits}
+use Rattle.model.specs.declared.Setup.{Setup}
 use Rattle.promises.specs.Promises.{EachWithin, WithinLimits}
 use Rattle.laws.specs.System.{residual₁-≤, residual₂-≤}
 use Rattle.laws.specs.Moves.{NearestMoves, A-positive}
@@ -38,23 +40,36 @@ within-at (r ∷ rs) (l ∷ ls) h (suc zero) = h .0
 within-at (r ∷ rs) (l ∷ ls) h (suc (suc k)) = within-at rs ls (h .1) (suc k)
 
 module _ (t : WorkedStep) (n : NearestMoves (t .setup) (t .before) (t .gradients) (t .forces) (t .moves)) where
+  abbrev s : Setup
+  s = t .setup
+
+  abbrev G : PointsAndFinger
+  G = t .gradients
+
+  abbrev g : ℤ
+  g = G .finger
+
+  abbrev pair : System
+  pair = system s (t .before) G (t .forces)
+
+  abbrev δ : ℕ → ℤ
+  δ = at (t .moves .points)
+
+  -- of a point, at p or away from it
   residual : Bool → ℕ → ℤ
-  residual b i = cond b (residual₁ (system (t .setup) (t .before) (t .gradients) (t .forces)) (at (t .moves .points) i) (t .moves .finger)) (A (t .setup) (t .gradients) i *ℤ at (t .moves .points) i -ℤ c (t .setup) (t .before) (t .gradients) (t .forces) i)
+  residual b i = cond b (residual₁ pair (δ i) (t .moves .finger)) (A s G i *ℤ δ i -ℤ c s (t .before) G (t .forces) i)
 
   limit : Bool → ℕ → ℤ
-  limit b i = cond b (A (t .setup) (t .gradients) i +ℤ pos 2 *ℤ (t .gradients .finger *ℤ t .gradients .finger)) (A (t .setup) (t .gradients) i)
+  limit b i = cond b (A s G i +ℤ pos 2 *ℤ (g *ℤ g)) (A s G i)
 
-  point : (i : ℕ) → 1 ≤ i → i ≤ points (t .setup) → (b : Bool) → eqb i (p (t .setup)) ≡ b → size (pos 2 *ℤ residual b i) ≤ℤ limit b i
+  point : (i : ℕ) → 1 ≤ i → i ≤ points s → (b : Bool) → eqb i (p s) ≡ b → size (pos 2 *ℤ residual b i) ≤ℤ limit b i
   unfolding residual limit system
-  point i h l true e = let q : i ≡ p (t .setup) = eqb-yes (rw e tt) in rw q (≤-trans (residual₁-≤ (n .finger)) (≤-of-eq (row (A (t .setup) (t .gradients) (p (t .setup))) (t .gradients .finger) (<-≤ (A-positive (t .setup) (t .gradients) (p (t .setup)))))))
+  point i h l true e = let here : i ≡ p s = eqb-yes (rw e tt) in rw here (≤-trans (residual₁-≤ (n .finger)) (≤-of-eq (row (A s G (p s)) g (<-≤ (A-positive s G (p s))))))
   point i h l false e = n .away i h l (eqb-no (rw e tt)) .near
 
   pub within-limits : WithinLimits t
   unfolding residuals limits residual limit system
-  within-limits =
-      let mass = pos (m (t .setup)) in
-      let g = t .gradients .finger in
-      record {
-        points = each-within (points (t .setup)) (λ k. residual (eqb (suc k) (p (t .setup))) (suc k)) (λ k. limit (eqb (suc k) (p (t .setup))) (suc k)) (λ k l. point (suc k) (suc-le-suc zero-le) l (eqb (suc k) (p (t .setup))) refl);
-        finger = ≤-trans (residual₂-≤ (n .finger)) (≤-of-eq (+ℤ-comm (size (negℤ (g *ℤ g))) (size (mass +ℤ g *ℤ g)) ∙ row mass g (nonneg (m (t .setup)))));
-      }
+  within-limits = record {
+    points = each-within (points s) (λ k. residual (eqb (suc k) (p s)) (suc k)) (λ k. limit (eqb (suc k) (p s)) (suc k)) (λ k l. point (suc k) (suc-le-suc zero-le) l (eqb (suc k) (p s)) refl);
+    finger = ≤-trans (residual₂-≤ (n .finger)) (≤-of-eq (+ℤ-comm (size (negℤ (g *ℤ g))) (size (pos (m s) +ℤ g *ℤ g)) ∙ row (pos (m s)) g (nonneg (m s))));
+  }

@@ -20,7 +20,7 @@ use Rattle.laws.specs.Refusals.{fails, first-append, append-passed, not-
 use Rattle.laws.specs.InRange.{InRange, in-range, passed-range}
 use Rattle.laws.specs.Strings.{spans-plus, spans-minus, spans-times}
 use Rattle.laws.specs.Accepted.{Stepped, resultMade}
-use Rattle.laws.specs.Run.{fit}
+use Rattle.laws.specs.Balance.{fit}
 
 -- the rows 1 to 5, 6, 7 and 11, passed
 pub record Ready (s : Setup) (neck : Neck) (x : State) : Type 0 where

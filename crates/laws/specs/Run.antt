@@ -1,5 +1,5 @@
 -- Demand 3: the claims on the energy hold for every list of steps, from any strings of the setup's length, on any neck.
-use mathlib.Core.Path.{_≡_, refl, sym, _∙_, ap, ap₂, subst}
+use mathlib.Core.Path.{_≡_, refl, _∙_, ap, ap₂, subst}
 use mathlib.Core.List.{List, [], _∷_}
 use Prim.Native.Nat.{ℕ, zero, suc}
 use lib.IntN.{ℤ, pos, natAbs, _+ℤ_, _-ℤ_, _*ℤ_}
@@ -10,8 +10,7 @@ use Rattle.integers.specs.Order.{≤-refl, ≤-trans, ≤-of-eq, ≤-sum, times
 use Rattle.integers.specs.Size.{size, size-add, size-mul}
 use Rattle.model.specs.Refusal.{Answer, accepted, refused}
 use Rattle.model.specs.Setup.{e, points}
-use Rattle.model.specs.Differences.{at, minus, dot}
-use Rattle.model.specs.Gradient.{gradient}
+use Rattle.model.specs.Differences.{at, dot}
 use Rattle.model.specs.State.{State, Lent, byTurn, stateOf, put, Neck, Forces}
 use Rattle.model.specs.Step.{gradients, moves, WorkedStep, workedStep, nextState, step}
 use Rattle.model.specs.Energy.{storedEnergy, work, loss, dotAll, residuals, limits, roundingWork, roundingLimit}
@@ -19,10 +18,10 @@ use Rattle.model.specs.Run.{Voice, energyOf, history, acceptedSteps, voiceAfter
 use Rattle.model.specs.declared.Setup.{Setup}
 use Rattle.model.specs.declared.Frame.{Frame}
 use Rattle.promises.specs.Promises.{Every, WithinLimits, Unforced, Claims, Run}
-use Rattle.laws.specs.Strings.{_spans_, length-zip, spans-plus, spans-minus, dot-size}
-use Rattle.laws.specs.Balance.{Fit, balance}
+use Rattle.laws.specs.Strings.{_spans_, spans-plus, dot-size}
+use Rattle.laws.specs.Balance.{balance, fit}
 use Rattle.laws.specs.Positive.{energy-nonneg}
-use Rattle.laws.specs.Accepted.{Sound, Examined, Stepped, step-accepted, accepted-step, step-refused, Fitting, spans-newer, spans-older}
+use Rattle.laws.specs.Accepted.{Sound, Stepped, step-accepted, accepted-step, step-refused, Fitting, spans-newer, spans-older}
 use Rattle.laws.specs.Moves.{moves-nearest}
 use Rattle.laws.specs.Limits.{within-at, within-limits}
 
@@ -43,16 +42,6 @@ no-work : (t : WorkedStep) → Unforced t → work t ≡ pos 0
 unfolding work
 no-work t u = ap₂ (λ f g. pos 2 *ℤ f *ℤ at (t .moves .points) (e (t .setup)) +ℤ pos 2 *ℤ g *ℤ t .moves .finger) (u .pluck) (u .finger)
     ∙ solve 2 (λ a b. # 2 ⊗ # 0 ⊗ a ⊕ # 2 ⊗ # 0 ⊗ b ≐ # 0) tt (at (t .moves .points) (e (t .setup))) (t .moves .finger)
-
-pub fit : {s : Setup} {neck : Neck} {x : State} (F : Forces) → Examined s neck x → Fit (workedStep s neck x F)
-unfolding workedStep gradients moves
-fit {s} {neck} {x} F h = record {
-  newer = h .newer;
-  older = h .older;
-  contact = h .contact;
-  gradients = record { long = length-zip gradient (neck .stiffness) (minus (neck .heights) (x .newer)) (h .stiffness ∙ sym (spans-minus (h .heights) (h .newer) .long)) ∙ h .stiffness };
-  moves = record { long = length-tabulate (points s) _ };
-}
 
 -- what an accepted step from x to y gives
 module _ {s : Setup} {neck : Neck} {x : State} {F : Forces} {y : State} (h : Stepped s neck x F y) where

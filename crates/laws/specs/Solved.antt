@@ -25,7 +25,7 @@ use Rattle.laws.specs.System.{rounded₁-unique, rounded₂-unique}
 use Rattle.laws.specs.Gradient.{gradient-is}
 use Rattle.laws.specs.Accepted.{Sound, Stepped, Examined, accepted-step, step-turn, step-untouched}
 use Rattle.laws.specs.Moves.{A-positive, det-positive, moves-nearest}
-use Rattle.laws.specs.Run.{fit}
+use Rattle.laws.specs.Balance.{fit}
 
 -- ---- it solves them
 
