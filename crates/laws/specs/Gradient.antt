@@ -9,7 +9,6 @@ use lib.Dec.{T, leb}
 use mir.Facts.{leb-yes, leb-no, yes-leb, clash}
 use lib.IntN.{ℤ, pos, natAbs}
 use lib.Signed.{_<ℤ_, leZ, leZ-yes, clashℤ}
-use mathlib.Core.List.{[], _∷_}
 use Rattle.integers.specs.Tests.{is-true, is-false}
 use Rattle.integers.specs.Size.{_within_, natural}
 use Rattle.model.specs.Gradient.{greatest, root, gradient}
@@ -94,8 +93,3 @@ gradient-is k d = record { free = λ h. rw (is-true (leZ d (pos 0)) (h .le)); co
         go : (b : Bool) → leZ d (pos 0) ≡ b → T (not b)
         go true e = clashℤ h (leZ-yes (rw e tt))
         go false e = tt
-
--- 01's entries of the root table
-entries : root 0 ∷ root 1 ∷ root 2 ∷ root 1016 ∷ root 1017 ∷ root 1023 ∷ [] ≡ 0 ∷ 8 ∷ 11 ∷ 254 ∷ 255 ∷ 255 ∷ []
-unfolding root greatest
-entries = refl

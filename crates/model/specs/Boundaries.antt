@@ -110,7 +110,7 @@ neckRows =
     ∷ neckOf 127 127 127 (pos 1) [] (pos 0) gives 7 ∷ neckOf 127 127 127 (negℤ (pos 1048576)) [] (pos 0) gives 0 ∷ neckOf 127 127 127 (negℤ (pos 1048577)) [] (pos 0) gives 7
     -- frets
     ∷ neckOf 127 127 127 (pos 0) (from 1 24) (pos 0) gives 0 ∷ neckOf 127 127 127 (pos 0) (from 104 24) (pos 0) gives 0 ∷ neckOf 127 127 127 (pos 0) (from 1 25) (pos 0) gives 8
-    ∷ neckOf 127 127 127 (pos 0) (0 ∷ []) (pos 0) gives 8 ∷ neckOf 127 127 127 (pos 0) (128 ∷ []) (pos 0) gives 8 ∷ neckOf 127 127 127 (pos 0) (5 ∷ 5 ∷ []) (pos 0) gives 8 ∷ neckOf 127 127 127 (pos 0) (6 ∷ 5 ∷ []) (pos 0) gives 8
+    ∷ neckOf 127 127 127 (pos 0) (0 ∷ []) (pos 0) gives 8 ∷ neckOf 127 127 127 (pos 0) (128 ∷ []) (pos 0) gives 8 ∷ neckOf 127 127 127 (pos 0) (5 ∷ 5 ∷ []) (pos 0) gives 8 ∷ neckOf 127 127 127 (pos 0) (6 ∷ 5 ∷ []) (pos 0) gives 8 ∷ neckOf 127 127 127 (pos 0) (5 ∷ 6 ∷ 6 ∷ []) (pos 0) gives 8
     -- the tip: not examined with no fret
     ∷ neckOf 127 127 127 (negℤ (pos 9)) (5 ∷ []) (pos 1) gives 9 ∷ neckOf 127 127 127 (negℤ (pos 9)) (5 ∷ []) (negℤ (pos 10)) gives 9 ∷ neckOf 127 127 127 (negℤ (pos 9)) (5 ∷ []) (negℤ (pos 9)) gives 0 ∷ neckOf 127 127 127 (negℤ (pos 9)) [] (pos 1) gives 0
     ∷ []
@@ -187,6 +187,8 @@ readingOf h a b turn i = firstOf (readingRules (benchSetup 1 0 0 0 0) (h ∷ [])
 readingRows : List Row
 readingRows =
     readingOf (pos 0) (pos 0) (pos 0) 0 0 gives 4 ∷ readingOf (pos 0) (pos 0) (pos 0) 0 1 gives 0 ∷ readingOf (pos 0) (pos 0) (pos 0) 0 2 gives 4 ∷ readingOf (pos 1) (pos 0) (pos 0) 0 1 gives 7
+    -- lengths: heights and both strings
+    ∷ firstOf (readingRules (benchSetup 1 0 0 0 0) [] (pos 0 ∷ []) (pos 0 ∷ []) 0 1) gives 6 ∷ firstOf (readingRules (benchSetup 1 0 0 0 0) (pos 0 ∷ []) [] (pos 0 ∷ []) 1 1) gives 6 ∷ firstOf (readingRules (benchSetup 1 0 0 0 0) (pos 0 ∷ []) (pos 0 ∷ []) [] 0 1) gives 6
     -- the newest string only
     ∷ readingOf (pos 0) (pos 1048577) (pos 0) 0 1 gives 11 ∷ readingOf (pos 0) (pos 1048577) (pos 0) 1 1 gives 0 ∷ readingOf (pos 0) (pos 0) (pos 1048577) 0 1 gives 0 ∷ readingOf (pos 0) (pos 0) (pos 1048577) 7 1 gives 11
     ∷ []

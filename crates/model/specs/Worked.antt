@@ -23,9 +23,15 @@ use Rattle.model.specs.Energy.{storedEnergy, loss, work, residuals, limi
 use Rattle.model.specs.Fraction.{fraction}
 use Rattle.model.specs.Block.{block, blockRules, play}
 use Rattle.model.specs.Reading.{reading, readingRules}
-use Rattle.model.specs.Bench.{finger, forces}
+use Rattle.model.specs.Run.{Voice, energyOf, Call, history, acceptedSteps, voiceAfter, sumOver}
+use Rattle.model.specs.Answers.{setupResult, neckResult, startResult, stepResult, blockResult}
+use Rattle.model.specs.Bench.{benchSetup, flatNeck, finger, restingFinger, onePoint, forces}
 use Rattle.model.specs.declared.Setup.{Setup}
 use Rattle.model.specs.declared.Reading.the-variants.{Free, Pressed}
+use Rattle.model.specs.declared.SetupAnswer.the-variants as SetupAnswer
+use Rattle.model.specs.declared.NeckAnswer.the-variants as NeckAnswer
+use Rattle.model.specs.declared.StartAnswer.the-variants as StartAnswer
+use Rattle.model.specs.declared.StepAnswer.the-variants as StepAnswer
 
 setup : Setup
 setup = record {
@@ -96,6 +102,16 @@ energies-are : storedEnergy setup before ∷ storedEnergy setup after ∷ [] ≡
 unfolding setup before after storedEnergy minus zipWith D1 dot E sum
 energies-are = refl
 
+-- ---- the root table: the entries that 01 gives, and its cap
+
+entries-are : root 0 ∷ root 1 ∷ root 2 ∷ root 1016 ∷ root 1017 ∷ root 1023 ∷ [] ≡ 0 ∷ 8 ∷ 11 ∷ 254 ∷ 255 ∷ 255 ∷ []
+unfolding root greatest
+entries-are = refl
+
+gradients-at : gradient 65535 (pos 1048576) ∷ gradient 1 (pos 1023) ∷ gradient 1 (pos 1024) ∷ gradient 65535 (pos 1) ∷ gradient 65535 (pos 0) ∷ gradient 65535 (negℤ (pos 1)) ∷ [] ≡ pos 255 ∷ pos 0 ∷ pos 8 ∷ pos 63 ∷ pos 0 ∷ pos 0 ∷ []
+unfolding gradient root greatest
+gradients-at = refl
+
 -- ---- the other operations, on the same setup
 
 -- floats ±m / 1,048,576, m odd, and 32 / 1,048,576
@@ -141,3 +157,32 @@ readings-are : reading setup (neck .heights) (lent .first) (lent .second) 7 1 �
     ≡ Pressed (over true 37) (fin false 1 (negsuc 14)) ∷ Free (fin false 11 (negsuc 18)) ∷ Free (over true 37) ∷ []
 unfolding setup neck before lent over reading readingRules setupRules placeOk lengthOk between inside heightOk displacementOk fraction round
 readings-are = refl
+
+-- ---- a run of the bench voice with L = 100, M = 10, S = 50 and Z = 100 whose second step is refused
+
+abbrev start-voice : Voice
+start-voice = record { setup = benchSetup 100 10 50 100 0; lent = onePoint (pos 0) (pos 0) (pos 0) 0 restingFinger }
+
+calls : List Call
+calls = history (flatNeck 0) start-voice (forces (pos 409600) (pos 777) ∷ forces (pos 2000000000) (pos 0) ∷ forces (pos 0) (pos 0) ∷ [])
+
+-- work, loss, rounding work and its bound, stored energy after it
+run-is : let ts = acceptedSteps (flatNeck 0) calls in sumOver work ts ∷ sumOver loss ts ∷ sumOver roundingWork ts ∷ sumOver roundingLimit ts ∷ energyOf (voiceAfter start-voice calls) ∷ []
+    ≡ pos 80281600 ∷ pos 12927900 ∷ negℤ (pos 280680) ∷ pos 1179076 ∷ pos 67073020 ∷ []
+unfolding calls history acceptedSteps voiceAfter sumOver step stepRules callRules resultRules setupRules placeOk lengthOk between inside heightOk displacementOk contactOk forceOk stateOf put workedStep nextState
+    gradients gradient root greatest moves A c system rounded₁ rounded₂ nearest floor plus minus times zipWith D1 dot E sum loss work residuals limits dotAll roundingWork roundingLimit storedEnergy
+run-is = refl
+
+-- ---- what the answers come to
+
+answers-are :
+    (setupResult (SetupAnswer.Accepted setup) ≡ accepted setup) × (setupResult (SetupAnswer.Refused 3) ≡ refused 3)
+    × (neckResult NeckAnswer.Accepted [] [] .answer ≡ accepted tt) × (neckResult (NeckAnswer.Refused 9) (pos 1 ∷ []) (2 ∷ []) ≡ record { answer = refused 9; heights = pos 1 ∷ []; stiffness = 2 ∷ [] })
+    × (startResult (StartAnswer.Refused 10) (pos 1 ∷ []) (pos 2 ∷ []) (pos 3 ∷ []) ≡ record { answer = refused 10; first = pos 1 ∷ []; second = pos 2 ∷ []; contact = pos 3 ∷ [] })
+    -- after a refused step turn and finger are those passed in, after an accepted one those of the answer
+    × (stepResult 7 restingFinger (StepAnswer.Refused 12) (pos 1 ∷ []) (pos 2 ∷ []) (pos 3 ∷ []) ≡ record { answer = refused 12; lent = onePoint (pos 1) (pos 2) (pos 3) 7 restingFinger })
+    × (stepResult 7 restingFinger (StepAnswer.Accepted record { turn = 0; finger = finger (pos 4) (pos 5) (pos 6); frame = record { bridge = nan; neck = nan } }) (pos 1 ∷ []) (pos 2 ∷ []) (pos 3 ∷ [])
+    ≡ record { answer = accepted record { bridge = nan; neck = nan }; lent = onePoint (pos 1) (pos 2) (pos 3) 0 (finger (pos 4) (pos 5) (pos 6)) })
+    × (blockResult record { count = 5; refusal = 13; turn = 1; finger = restingFinger } (pos 1 ∷ []) (pos 2 ∷ []) (pos 3 ∷ []) (nan ∷ []) ≡ record { count = 5; refusal = 13; lent = onePoint (pos 1) (pos 2) (pos 3) 1 restingFinger; samples = nan ∷ [] })
+unfolding setup
+answers-are = (refl, refl, refl, refl, refl, refl, refl, refl)
