@@ -11,34 +11,34 @@ use Rattle.model.specs.Refusal.{Rule, accepted, refused}
 use Rattle.model.specs.Setup.{L, M, S, m, p, e, points, placeOk, lengthOk, setupRules}
 use Rattle.model.specs.State.{State, Lent, byTurn, newest, stateOf, put, Neck, Forces}
 use Rattle.model.specs.Step.{workedStep, nextState, buffersRule, callRules, resultRules, stepRules, frame, StepResult, step}
-use Rattle.model.specs.Start.{startRules, StartResult, start, fresh}
+use Rattle.model.specs.Start.{startRules, StartResult, startedResult, start, fresh}
 use Rattle.model.specs.declared.Setup.{Setup}
 use Rattle.model.specs.declared.Frame.{Frame}
 use Rattle.promises.specs.Promises.{Passed}
-use Rattle.laws.specs.Refusals.{fails, all-yes, by-table, never-both, accepted-by}
+use Rattle.laws.specs.Refusals.{fails, passed-append, all-yes, by-table, never-both, accepted-by}
 use Rattle.laws.specs.Strings.{_spans_}
 
 -- ---- a setup
 
-pub record Sound (s : Setup) : Type 0 where
+pub record SetupFacts (s : Setup) : Type 0 where
   pub stable : L s + 4 * M s + 2 * S s ≤ 4096
-  pub massive : 1 ≤ m s
+  pub mass-low : 1 ≤ m s
   pub first : 1 ≤ p s
   pub last : p s ≤ points s
 
-pub sound : (s : Setup) (rules : List Rule) → Passed (setupRules s ++ rules) → Sound s
+pub sound : (s : Setup) (rules : List Rule) → Passed (setupRules s ++ rules) → SetupFacts s
 unfolding setupRules placeOk between
 sound s rules h =
     let table = setupRules s ++ rules in
     let places = all-yes (placeOk s) (p s ∷ e s ∷ s .«bridge_place» ∷ s .«neck_place» ∷ []) (fails 4 table h) in
     let place = and-yes (leb 1 (p s)) (leb (p s) (points s)) (places .0) in
     let mass = and-yes (leb 1 (m s)) (leb (m s) 1048576) (T-not-not (between 1 (m s) 1048576) (fails 5 table h)) in
-    record { stable = ltb-no (fails 3 table h); massive = leb-yes (mass .0); first = leb-yes (place .0); last = leb-yes (place .1) }
+    record { stable = ltb-no (fails 3 table h); mass-low = leb-yes (mass .0); first = leb-yes (place .0); last = leb-yes (place .1) }
 
 -- ---- a setup with buffers of its length, as rules 1 to 6 leave it
 
 pub record Examined (s : Setup) (neck : Neck) (x : State) : Type 0 where
-  pub setup : Sound s
+  pub setup : SetupFacts s
   pub heights : neck .heights spans points s
   pub stiffness : length (neck .stiffness) ≡ points s
   pub newer : x .newer spans points s
@@ -61,7 +61,7 @@ examined s neck x rules h =
 -- ---- a step
 
 -- from the state x with the forces F to the state y
-pub record Stepped (s : Setup) (neck : Neck) (x : State) (F : Forces) (y : State) : Type 0 where
+pub record StepFacts (s : Setup) (neck : Neck) (x : State) (F : Forces) (y : State) : Type 0 where
   pub passed : Passed (stepRules s neck x F)
   pub examined : Examined s neck x
   pub result : y ≡ nextState (workedStep s neck x F)
@@ -89,7 +89,7 @@ module _ (s : Setup) (neck : Neck) (v : Lent) (F : Forces) where
   unfolding step stepRules callRules resultRules setupRules
   step-accepted = accepted-by (λ r. r .answer) (stepRules s neck (stateOf v) F) tt resultMade _ (λ n. refl)
 
-  pub accepted-step : (f : Frame) → step s neck v F .answer ≡ accepted f → Stepped s neck (stateOf v) F (stateOf (step s neck v F .lent))
+  pub accepted-step : (f : Frame) → step s neck v F .answer ≡ accepted f → StepFacts s neck (stateOf v) F (stateOf (step s neck v F .lent))
   unfolding stepRules callRules setupRules nextState workedStep
   accepted-step f e =
       let (h, r) = step-accepted f e in
@@ -141,13 +141,10 @@ module _ {s : Setup} {v : Lent} (h : Fitting s v) where
 -- ---- a fresh start
 
 module _ (s : Setup) (first second contact : List ℤ) (w w' : ℤ) (v : Lent) where
-  abbrev pub Starts : Type 0
-  Starts = start s first second contact w w' ≡ record { answer = accepted record { turn = v .turn; finger = v .finger }; first = v .first; second = v .second; contact = v .contact }
-
-  pub start-accepted : Starts → Sound s × Fitting s v
+  pub start-accepted : start s first second contact w w' ≡ startedResult v → Passed (setupRules s) × Fitting s v
   unfolding start startRules setupRules fresh
   start-accepted q =
       let rules = startRules s first second contact w w' in
       let (h, r) = accepted-by (λ (r : StartResult). r .answer) rules tt _ _ (λ n. refl) _ (ap (λ r. r .answer) q) in
       let zeros : replicate (points s) (pos 0) spans points s = record { long = length-replicate (points s) (pos 0) } in
-      (sound s (drop 5 rules) h, record { first = rw (sym (ap (λ r. r .first) q) ∙ ap (λ r. r .first) r) zeros; second = rw (sym (ap (λ r. r .second) q) ∙ ap (λ r. r .second) r) zeros })
+      (passed-append (setupRules s) (drop 5 rules) h .0, record { first = rw (sym (ap (λ r. r .first) q) ∙ ap (λ r. r .first) r) zeros; second = rw (sym (ap (λ r. r .second) q) ∙ ap (λ r. r .second) r) zeros })

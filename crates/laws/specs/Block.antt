@@ -11,12 +11,12 @@ use Rattle.model.specs.Refusal.{unless, Answer, accepted, refused}
 use Rattle.model.specs.Setup.{setupRules}
 use Rattle.model.specs.State.{Lent, stateOf, Neck, Forces}
 use Rattle.model.specs.Step.{step}
-use Rattle.model.specs.Run.{Voice, call, history, acceptedSteps, voiceAfter}
-use Rattle.model.specs.Block.{pairs, play, blockRules, block}
+use Rattle.model.specs.Run.{voice, call, history, acceptedSteps, voiceAfter}
+use Rattle.model.specs.Block.{pairs, blockRefused, play, blockRules, block}
 use Rattle.model.specs.declared.Setup.{Setup}
 use Rattle.model.specs.declared.Frame.{Frame}
-use Rattle.promises.specs.Promises.{Passed, flips, frameSamples, Plays, Blocks}
-use Rattle.laws.specs.Refusals.{passed, fails, passed-append}
+use Rattle.promises.specs.Promises.{Passed, IsFirst, flips, frameSamples, Plays, Blocks}
+use Rattle.laws.specs.Refusals.{first-of, fails, passed-append}
 use Rattle.laws.specs.Accepted.{accepted-step, step-refused, step-turn}
 use Rattle.laws.specs.Ready.{Ready, ready-next, ready-refused}
 
@@ -24,10 +24,7 @@ two-more : (n : ℕ) (zs : List Float) → drop (2 * n) (drop 2 zs) ≡ drop (2 
 two-more n zs = let q : 2 + 2 * n ≡ 2 * suc n = omega arith in drop-drop (2 * n) 2 zs ∙ ap (λ (k : ℕ). drop k zs) q
 
 module _ (s : Setup) (neck : Neck) where
-  abbrev voice : Lent → Voice
-  voice v = record { setup = s; lent = v }
-
-  pub play-plays : (Fs : List Forces) (v : Lent) (samples : List Float) → Ready s neck (stateOf v) → Plays neck (record { setup = s; lent = v }) Fs samples (play s neck v Fs samples)
+  pub play-plays : (Fs : List Forces) (v : Lent) (samples : List Float) → Ready s neck (stateOf v) → Plays neck (voice s v) Fs samples (play s neck v Fs samples)
   unfolding play history acceptedSteps voiceAfter flips frameSamples
   play-plays [] v samples h = record { calls = []; run = refl; count = refl; turn = refl; lent = refl; samples = refl; stops = refl }
   play-plays (F ∷ Fs) v samples h = go (step s neck v F .answer) refl (play-plays Fs (step s neck v F .lent) (drop 2 samples))
@@ -35,14 +32,14 @@ module _ (s : Setup) (neck : Neck) where
       v' : Lent
       v' = step s neck v F .lent
 
-      go : (a : Answer Frame) → step s neck v F .answer ≡ a → (Ready s neck (stateOf v') → Plays neck (voice v') Fs (drop 2 samples) (play s neck v' Fs (drop 2 samples)))
-          → Plays neck (voice v) (F ∷ Fs) samples (play s neck v (F ∷ Fs) samples)
+      go : (a : Answer Frame) → step s neck v F .answer ≡ a → (Ready s neck (stateOf v') → Plays neck (voice s v') Fs (drop 2 samples) (play s neck v' Fs (drop 2 samples)))
+          → Plays neck (voice s v) (F ∷ Fs) samples (play s neck v (F ∷ Fs) samples)
       go (accepted f) q rest =
           let k = rest (ready-next (accepted-step s neck v F f q) h) in
           let b = play s neck v' Fs (drop 2 samples) in
           rw (q, play) record {
-            calls = call neck (voice v) F ∷ k .calls;
-            run = ap (λ cs. call neck (voice v) F ∷ cs) (k .run);
+            calls = call neck (voice s v) F ∷ k .calls;
+            run = ap (λ cs. call neck (voice s v) F ∷ cs) (k .run);
             count = rw (q, acceptedSteps) (ap suc (k .count));
             turn = k .turn ∙ ap (flips (b .count)) (step-turn s neck v F f q);
             lent = k .lent;
@@ -66,10 +63,14 @@ ready s neck v forces samples h =
     let rules = blockRules s neck v forces samples in
     record { setup = passed-append (setupRules s) (drop 5 rules) h .0; buffers = (fails 6 rules h, tt); heights = (fails 7 rules h, tt); state = (fails 11 rules h, tt) }
 
+-- a block by what its table gave
+by-number : (s : Setup) (neck : Neck) (v : Lent) (forces : List ℤ) (samples : List Float) (n : ℕ) → IsFirst (blockRules s neck v forces samples) n
+    → block s neck v forces samples ≡ unless n (play s neck v (pairs forces) samples) (blockRefused v samples)
+unfolding block
+by-number s neck v forces samples n h = ap (λ n. unless n (play s neck v (pairs forces) samples) (blockRefused v samples)) (first-of (blockRules s neck v forces samples) n h)
+
 pub blocks : Blocks
-unfolding block blockRules setupRules
 blocks = record {
-  played = λ s neck v forces samples q. rw (ap (λ n. unless n (play s neck v (pairs forces) samples) (λ n. record { count = 0; refusal = n; lent = v; samples = samples })) q)
-      (play-plays s neck (pairs forces) v samples (ready s neck v forces samples (passed (blockRules s neck v forces samples) tt q)));
-  turned-down = λ s neck v forces samples n q. ap (λ n. unless n (play s neck v (pairs forces) samples) (λ n. record { count = 0; refusal = n; lent = v; samples = samples })) q;
+  played = λ s neck v forces samples h. rw (by-number s neck v forces samples 0 h) (play-plays s neck (pairs forces) v samples (ready s neck v forces samples h));
+  turned-down = λ s neck v forces samples n h. by-number s neck v forces samples (suc n) h;
 }

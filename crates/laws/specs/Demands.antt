@@ -1,13 +1,9 @@
 -- The promises, each proved.
 use mathlib.Core.Path.{refl}
-use Prim.Native.Nat.{ℕ}
+use mathlib.Core.List.{[]}
 use native.Mathlib.Omega.{arith}
-use lib.IntN.{ℤ, pos}
-use lib.Signed.{_<ℤ_}
 use Rattle.model.specs.Refusal.{Answer}
 use Rattle.model.specs.Setup.{setup, setupRules}
-use Rattle.model.specs.Rounding.{nearest}
-use Rattle.model.specs.Gradient.{gradient}
 use Rattle.model.specs.State.{stateOf}
 use Rattle.model.specs.Neck.{neckRules, NeckResult, lay}
 use Rattle.model.specs.Start.{startRules, StartResult, start}
@@ -16,11 +12,11 @@ use Rattle.model.specs.Block.{blockRules}
 use Rattle.model.specs.Reading.{readingRules}
 use Rattle.model.specs.declared.Setup.{Setup}
 use Rattle.promises.specs.Promises as promise
-use Rattle.promises.specs.Promises.{Demand1, Demand2, Demand3, Blocks, Frames, Readings, IsNearest, IsGradient, Refuses, Leaves}
-use Rattle.laws.specs.Refusals.{first-is, by-table}
-use Rattle.laws.specs.Nearest as Nearest
-use Rattle.laws.specs.Gradient as Gradient
-use Rattle.laws.specs.Accepted.{start-accepted}
+use Rattle.promises.specs.Promises.{Demand1, Accepts, Demand2, Runs, Demand3, Blocks, Frames, Readings, Rounding, Refuses, Leaves}
+use Rattle.laws.specs.Refusals.{first-unique, by-table}
+use Rattle.laws.specs.Nearest.{nearest-is, unique}
+use Rattle.laws.specs.Accepts as Accepts
+use Rattle.laws.specs.Accepted.{sound, start-accepted}
 use Rattle.laws.specs.Solved as Solved
 use Rattle.laws.specs.Run.{run}
 use Rattle.laws.specs.Exact as Exact
@@ -39,17 +35,25 @@ demand1 = record {
       (λ h. (h, tt, tt, tt)) (λ n h. ((omega arith, h), refl, refl, refl));
   steps = λ s neck v F. by-table (stepRules s neck (stateOf v) F) tt _ _
       (λ (r : StepResult). Refuses (stepRules s neck (stateOf v) F) (r .answer) × Leaves (r .answer) v (r .lent)) (λ h. (h, tt)) (λ n h. ((omega arith, h), refl));
-  blocks = λ s neck v forces samples. first-is (blockRules s neck v forces samples) tt;
-  readings = λ s heights first second turn i. first-is (readingRules s heights first second turn i) tt;
+  one-number = first-unique;
 }
+
+pub accepts : Accepts
+accepts = Accepts.accepts
 
 -- an accepted step solves the equations
 pub demand2 : Demand2
 demand2 = Solved.step-solves
 
 -- the energy of every list of steps
+pub runs : Runs
+unfolding setupRules
+runs s neck v h first second Fs = run s neck (sound s [] h) Fs v record { first = record { long = first }; second = record { long = second } }
+
 pub demand3 : Demand3
-demand3 s _ t _ _ plan heights stiffness neck _ first second contact w w' v h Fs = let (ok, fitting) = start-accepted s first second contact w w' v h in run s neck ok Fs v fitting
+demand3 s _ t _ _ plan heights stiffness neck _ first second contact w w' v h Fs =
+    let (passed, fitting) = start-accepted s first second contact w w' v h in
+    runs s neck v passed (fitting .first .long) (fitting .second .long) Fs
 
 pub blocks : Blocks
 blocks = Block.blocks
@@ -60,8 +64,5 @@ frames = Exact.frames
 pub readings : Readings
 readings = Exact.readings
 
-pub nearest-is : (a b : ℤ) → pos 0 <ℤ b → IsNearest a b (nearest a b)
-nearest-is a b h = Nearest.nearest-is a h
-
-pub gradient-is : (k : ℕ) (d : ℤ) → IsGradient k d (gradient k d)
-gradient-is = Gradient.gradient-is
+pub rounding : Rounding
+rounding a b h = (nearest-is a h, λ q n. unique h n (nearest-is a h))

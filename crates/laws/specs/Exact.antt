@@ -2,7 +2,7 @@
 use mathlib.Core.Path.{_≡_, refl, ap}
 use mathlib.Core.Bool.{Bool, true, false, cond}
 use mathlib.Core.List.{List, [], _∷_}
-use Prim.Native.Nat.{ℕ, zero, suc, _≤_}
+use Prim.Native.Nat.{ℕ, _≤_}
 use native.Mathlib.Omega.{arith}
 use lib.Dec.{T}
 use lib.IntN.{ℤ, pos, negℤ, natAbs, _-ℤ_}
@@ -15,19 +15,20 @@ use Rattle.integers.specs.Order.{≤-pos, pos-≤, natAbs-≤}
 use Rattle.integers.specs.Size.{size-between}
 use Rattle.integers.specs.Floats.{negative, fraction-exact}
 use Rattle.model.specs.Ranges.{inside, all, heightOk, displacementOk}
-use Rattle.model.specs.Refusal.{Rule, firstOf, unless, accepted}
+use Rattle.model.specs.Refusal.{Rule, accepted}
 use Rattle.model.specs.Setup.{setupRules}
 use Rattle.model.specs.Differences.{at}
 use Rattle.model.specs.State.{Lent, newest, stateOf, Neck, Forces}
 use Rattle.model.specs.Step.{callRules, resultRules, stepRules, frame, step}
 use Rattle.model.specs.Fraction.{fraction, Holds}
 use Rattle.model.specs.Reading.{readingRules, reading}
+use Rattle.model.specs.Answers.{readingNumber}
 use Rattle.model.specs.declared.Setup.{Setup}
 use Rattle.model.specs.declared.Frame.{Frame}
 use Rattle.model.specs.declared.Reading.{Reading}
 use Rattle.model.specs.declared.Reading.the-variants.{Free, Pressed, Refused}
-use Rattle.promises.specs.Promises.{Passed, Frames, Reads, Readings}
-use Rattle.laws.specs.Refusals.{passed, fails, at-all}
+use Rattle.promises.specs.Promises.{Passed, IsFirst, Frames, Shows, Readings}
+use Rattle.laws.specs.Refusals.{fails, at-all, by-table}
 use Rattle.laws.specs.Accepted.{stateMade, step-accepted, accepted-step}
 use Rattle.laws.specs.Sizes.{inside-within}
 
@@ -83,9 +84,9 @@ module _ (s : Setup) (heights first second : List ℤ) (turn i : ℕ) where
   value : Bool → Reading
   value b = cond b (Pressed (fraction binary64 u) (fraction binary64 d)) (Free (fraction binary64 u))
 
-  values-hold : Passed rules → (b : Bool) → ltZ (pos 0) d ≡ b → Reads u d 0 (value b)
+  shows : Passed rules → (b : Bool) → ltZ (pos 0) d ≡ b → Shows u d (value b)
   unfolding string u d rules value readingRules setupRules heightOk inside
-  values-hold h b q = go b q
+  shows h b q = go b q
     where
       range : natAbs u ≤ 1048576
       range = string-≤ string (T-not-not (all displacementOk string) (fails 11 rules h)) i
@@ -93,17 +94,20 @@ module _ (s : Setup) (heights first second : List ℤ) (turn i : ℕ) where
       height : T (heightOk (at heights i))
       height = at-all heightOk heights tt (T-not-not (all heightOk heights) (fails 7 rules h)) i
 
-      go : (b : Bool) → ltZ (pos 0) d ≡ b → Reads u d 0 (value b)
-      go true q = let l : pos 0 <ℤ d = ltZ-yes (rw q tt) in (refl, l, fraction-holds binary64 u range, fraction-holds binary64 d (depth-≤ (at heights i) u height range l))
-      go false q = (refl, ltZ-no (rw q tt), fraction-holds binary64 u range)
+      go : (b : Bool) → ltZ (pos 0) d ≡ b → Shows u d (value b)
+      go true q = let l : pos 0 <ℤ d = ltZ-yes (rw q tt) in (l, fraction-holds binary64 u range, fraction-holds binary64 d (depth-≤ (at heights i) u height range l))
+      go false q = (ltZ-no (rw q tt), fraction-holds binary64 u range)
 
-  holds : Reads u d (firstOf rules) (reading s heights first second turn i)
+  -- neither case of a reading that is made has a number
+  unnumbered : (b : Bool) → readingNumber (value b) ≡ 0
+  unfolding value
+  unnumbered true = refl
+  unnumbered false = refl
+
+  holds : IsFirst rules (readingNumber (reading s heights first second turn i)) × Shows u d (reading s heights first second turn i)
   unfolding reading string u d rules value readingRules setupRules
-  holds = go (firstOf rules) refl
-    where
-      go : (n : ℕ) → firstOf rules ≡ n → Reads u d n (unless n (value (ltZ (pos 0) d)) Refused)
-      go zero q = values-hold (passed rules tt q) (ltZ (pos 0) d) refl
-      go (suc n) q = (omega arith, refl)
+  holds = by-table rules tt (value (ltZ (pos 0) d)) Refused (λ (r : Reading). IsFirst rules (readingNumber r) × Shows u d r)
+      (λ h. (rw (unnumbered (ltZ (pos 0) d)) h, shows h (ltZ (pos 0) d) refl)) (λ n h. (h, omega arith))
 
 pub readings : Readings
 unfolding string u d rules

@@ -26,7 +26,7 @@ use Rattle.promises.specs.Promises.{IsNearest, IsRounded}
 use Rattle.laws.specs.Strings.{_spans_, at-places}
 use Rattle.laws.specs.Nearest.{nearest-is, unique}
 use Rattle.laws.specs.System.{rounded-is, rounded₁-unique, rounded₂-unique}
-use Rattle.laws.specs.Accepted.{Sound}
+use Rattle.laws.specs.Accepted.{SetupFacts}
 
 -- 01, 'One step': away from p the move is c / A, rounded; at p string and finger are the system's exact solution, each rounded
 pub record NearestMoves (s : Setup) (x : State) (G : PointsAndFinger) (F : Forces) (δ : PointsAndFinger) : Type 0 where
@@ -43,9 +43,9 @@ unfolding system
 det-positive s x G F h = deduce 3 (λ A m g. times 1 (# 0 ≺ A ⊗ m) ∷ times 1 (# 0 ≼ g ⊗ g ⊗ (A ⊕ m)) ∷ [] ⊢ # 0 ≺ (A ⊕ g ⊗ g) ⊗ (m ⊕ g ⊗ g) ⊖ ⊝ (g ⊗ g) ⊗ ⊝ (g ⊗ g)) tt (A s G (p s)) (pos (m s)) (G .finger)
     (times-positive (A-positive s G (p s)) (suc-< (pos-≤ h))) (times-nonneg (square-nonneg (G .finger)) (sum-nonneg (<-≤ (A-positive s G (p s))) (nonneg (m s))))
 
-module _ (s : Setup) (x : State) (G : PointsAndFinger) (F : Forces) (ok : Sound s) where
+module _ (s : Setup) (x : State) (G : PointsAndFinger) (F : Forces) (ok : SetupFacts s) where
   regular : pos 0 <ℤ det (system s x G F)
-  regular = det-positive s x G F (ok .massive)
+  regular = det-positive s x G F (ok .mass-low)
 
   move : (b : Bool) → ℕ → ℤ
   move b i = cond b (rounded₁ (system s x G F)) (nearest (c s x G F i) (A s G i))

@@ -1,4 +1,4 @@
--- Rounding: `nearest a b` is the whole number nearest a / b, and the only one. Only this file knows the tie rule.
+-- Rounding: `nearest a b` is the whole number nearest a / b, and the only one. Of the proofs only this file knows the tie rule.
 use mathlib.Core.Path.{_≡_, sym, _∙_, ap}
 use mathlib.Core.Logic.{⊎-elim}
 use mathlib.Core.List.{[], _∷_}

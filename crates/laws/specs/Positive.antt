@@ -1,4 +1,4 @@
--- The stored energy is never negative, for any state and a setup with L + 4M + 2S ≤ 4096.
+-- The stored energy is never negative, for any state whose two strings have one length and a setup with L + 4M + 2S ≤ 4096.
 use mathlib.Core.Path.{_≡_, refl, ap}
 use mathlib.Core.List.{List, [], _∷_}
 use Prim.Native.Nat.{ℕ, suc, _+_, _*_, _≤_}

@@ -19,7 +19,7 @@ use Rattle.promises.specs.Promises.{Passed}
 use Rattle.laws.specs.Refusals.{fails, first-append, append-passed, not-not, yes-all, never-both}
 use Rattle.laws.specs.InRange.{InRange, in-range, passed-range}
 use Rattle.laws.specs.Strings.{spans-plus, spans-minus, spans-times}
-use Rattle.laws.specs.Accepted.{Stepped, resultMade}
+use Rattle.laws.specs.Accepted.{StepFacts, resultMade}
 use Rattle.laws.specs.Balance.{fit}
 
 -- the rows 1 to 5, 6, 7 and 11, passed
@@ -33,7 +33,7 @@ length-ok : (s : Setup) {n : ℕ} → n ≡ points s → T (lengthOk s n)
 unfolding lengthOk
 length-ok s q = yes-eqb q
 
-module _ {s : Setup} {neck : Neck} {x : State} {F : Forces} {y : State} (h : Stepped s neck x F y) (r : Ready s neck x) where
+module _ {s : Setup} {neck : Neck} {x : State} {F : Forces} {y : State} (h : StepFacts s neck x F y) (r : Ready s neck x) where
   z : State
   z = nextState (workedStep s neck x F)
 

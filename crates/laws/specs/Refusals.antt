@@ -1,5 +1,5 @@
 -- Refusal tables: what the number says of the conditions, and the other way round.
-use mathlib.Core.Path.{_≡_, refl, ap}
+use mathlib.Core.Path.{_≡_, refl, sym, _∙_, ap}
 use mathlib.Core.Bool.{Bool, true, false, not, _&&_, cond}
 use mathlib.Core.List.{List, [], _∷_, _++_}
 use Prim.Native.Nat.{ℕ, zero, suc}
@@ -39,6 +39,20 @@ first-is rules t = go (firstOf rules) refl
     go zero e = passed rules t e
     go (suc n) e = given rules n e
 
+-- where the front is passed, the back gives the number
+pub first-append : (front back : List Rule) → Passed front → firstOf (front ++ back) ≡ firstOf back
+first-append [] back h = refl
+first-append ((n when false) ∷ front) back h = first-append front back (h .1)
+first-append ((n when true) ∷ front) back h = absurd (h .0)
+
+-- and the only one
+pub first-of : (rules : List Rule) (n : ℕ) → IsFirst rules n → firstOf rules ≡ n
+first-of rules zero h = passed-first rules h
+first-of rules (suc n) h = let (front, (back, (q, p))) = h in rw q (first-append front ((suc n when true) ∷ back) p)
+
+pub first-unique : (rules : List Rule) (m n : ℕ) → IsFirst rules m → IsFirst rules n → m ≡ n
+first-unique rules m n h k = sym (first-of rules m h) ∙ first-of rules n k
+
 -- ---- facts are read from a table by their number
 
 -- the condition that has this number, the first if there are several
@@ -53,12 +67,6 @@ fails n ((k when b) ∷ rules) h = go (eqb n k) (fails n rules (h .1))
     go : (e : Bool) → T (not (condition n rules)) → T (not (cond e b (condition n rules)))
     go true r = h .0
     go false r = r
-
--- where the front is passed, the back gives the number
-pub first-append : (front back : List Rule) → Passed front → firstOf (front ++ back) ≡ firstOf back
-first-append [] back h = refl
-first-append ((n when false) ∷ front) back h = first-append front back (h .1)
-first-append ((n when true) ∷ front) back h = absurd (h .0)
 
 pub passed-append : (front back : List Rule) → Passed (front ++ back) → Passed front × Passed back
 passed-append [] back h = (tt, h)

@@ -14,14 +14,14 @@ use Rattle.model.specs.Differences.{at, dot}
 use Rattle.model.specs.State.{State, Lent, byTurn, stateOf, put, Neck, Forces}
 use Rattle.model.specs.Step.{gradients, moves, WorkedStep, workedStep, nextState, step}
 use Rattle.model.specs.Energy.{storedEnergy, work, loss, dotAll, residuals, limits, roundingWork, roundingLimit}
-use Rattle.model.specs.Run.{Voice, energyOf, history, acceptedSteps, voiceAfter, sumOver}
+use Rattle.model.specs.Run.{Voice, voice, energyOf, history, acceptedSteps, voiceAfter, sumOver}
 use Rattle.model.specs.declared.Setup.{Setup}
 use Rattle.model.specs.declared.Frame.{Frame}
 use Rattle.promises.specs.Promises.{Every, WithinLimits, Unforced, Claims, Run}
 use Rattle.laws.specs.Strings.{_spans_, spans-plus, dot-size}
 use Rattle.laws.specs.Balance.{balance, fit}
 use Rattle.laws.specs.Positive.{energy-nonneg}
-use Rattle.laws.specs.Accepted.{Sound, Stepped, step-accepted, accepted-step, step-refused, Fitting, spans-newer, spans-older}
+use Rattle.laws.specs.Accepted.{SetupFacts, StepFacts, step-accepted, accepted-step, step-refused, Fitting, spans-newer, spans-older}
 use Rattle.laws.specs.Moves.{moves-nearest}
 use Rattle.laws.specs.Limits.{within-at, within-limits}
 
@@ -44,7 +44,7 @@ no-work t u = ap₂ (λ f g. pos 2 *ℤ f *ℤ at (t .moves .points) (e (t .setu
     ∙ solve 2 (λ a b. # 2 ⊗ # 0 ⊗ a ⊕ # 2 ⊗ # 0 ⊗ b ≐ # 0) tt (at (t .moves .points) (e (t .setup))) (t .moves .finger)
 
 -- what an accepted step from x to y gives
-module _ {s : Setup} {neck : Neck} {x : State} {F : Forces} {y : State} (h : Stepped s neck x F y) where
+module _ {s : Setup} {neck : Neck} {x : State} {F : Forces} {y : State} (h : StepFacts s neck x F y) where
   step-balance : let t = workedStep s neck x F in storedEnergy s y ≡ storedEnergy s x +ℤ work t -ℤ loss t +ℤ roundingWork t
   unfolding workedStep
   step-balance = rw (h .result) (balance (workedStep s neck x F) (fit F (h .examined)))
@@ -99,18 +99,15 @@ one {v} {v'} {w} {t} {ts} q l c = record { never-negative = c .never-negative; e
     bounded : size (sumOver roundingWork (t ∷ ts)) ≤ℤ sumOver roundingLimit (t ∷ ts)
     bounded = ≤-trans (size-add (roundingWork t) (sumOver roundingWork ts)) (≤-sum (rounding-≤ t l) (c .bounded))
 
-module _ (s : Setup) (neck : Neck) (ok : Sound s) where
-  abbrev voice : Lent → Voice
-  voice v = record { setup = s; lent = v }
+module _ (s : Setup) (neck : Neck) (ok : SetupFacts s) where
+  from : {v v' : Lent} {w : Voice} {ts : List WorkedStep} → v' ≡ v → Claims (voice s v') w ts → Claims (voice s v) w ts
+  from {w} {ts} q c = subst (λ (v : Lent). Claims (voice s v) w ts) q c
 
-  from : {v v' : Lent} {w : Voice} {ts : List WorkedStep} → v' ≡ v → Claims (voice v') w ts → Claims (voice v) w ts
-  from {w} {ts} q c = subst (λ (v : Lent). Claims (voice v) w ts) q c
-
-  pub run : (Fs : List Forces) (v : Lent) → Fitting s v → Run neck (record { setup = s; lent = v }) Fs
+  pub run : (Fs : List Forces) (v : Lent) → Fitting s v → Run neck (voice s v) Fs
   unfolding history acceptedSteps voiceAfter
-  run [] v h = none (voice v) (energy-nonneg s (stateOf v) (spans-newer h) (spans-older h) (ok .stable))
+  run [] v h = none (voice s v) (energy-nonneg s (stateOf v) (spans-newer h) (spans-older h) (ok .stable))
   run (F ∷ Fs) v h = go (step s neck v F .answer) refl (run Fs (step s neck v F .lent))
     where
-      go : (a : Answer Frame) → step s neck v F .answer ≡ a → (Fitting s (step s neck v F .lent) → Run neck (voice (step s neck v F .lent)) Fs) → Run neck (voice v) (F ∷ Fs)
+      go : (a : Answer Frame) → step s neck v F .answer ≡ a → (Fitting s (step s neck v F .lent) → Run neck (voice s (step s neck v F .lent)) Fs) → Run neck (voice s v) (F ∷ Fs)
       go (accepted f) q rest = let k = accepted-step s neck v F f q in rw (q, acceptedSteps) (one (step-balance k) (step-limits k) (rest (fitting-step s neck v F f q h)))
       go (refused n) q rest = let same = step-refused s neck v F n q in rw (q, acceptedSteps) (from same (rest (rw same h)))

@@ -1,5 +1,4 @@
--- How large the numbers of a step can be, where its refusals 1 to 12 are passed: those of its equations, its moves and what it leads to.
--- All of them are well below 2 ^ 63.
+-- How large the numbers of a step's equations can be where its refusals 1 to 12 are passed: all of them fit signed 64 bits.
 use mathlib.Core.Path.{_≡_, refl, sym, _∙_}
 use mathlib.Core.Bool.{Bool, true, false, not, cond}
 use mathlib.Core.List.{List, [], _∷_, zipWith}
@@ -33,13 +32,13 @@ abbrev pub Bounded : List ℤ → ℕ → Type 0
 Bounded u n = (i : ℕ) → at u i within n
 
 -- 01's ranges, as a step's refusals 1 to 12 leave them
-pub record Small (s : Setup) (x : State) (G : PointsAndFinger) (F : Forces) : Type 0 where
+pub record StepRanges (s : Setup) (x : State) (G : PointsAndFinger) (F : Forces) : Type 0 where
   pub tension : L s ≤ 4096
   pub stiffness : M s ≤ 1024
   pub viscous : S s ≤ 2048
   pub plain : Z s ≤ 4096
   pub mass : m s ≤ 1048576
-  pub massive : 1 ≤ m s
+  pub mass-low : 1 ≤ m s
   pub newer : Bounded (x .newer) 1048576
   pub older : Bounded (x .older) 1048576
   pub contact : Bounded (x .contact) 67108864
@@ -63,7 +62,7 @@ only : (b : Bool) {y : ℤ} {n : ℕ} → y within n → cond b y (pos 0) within
 only true h = h
 only false h = weaken (num 0) zero-le
 
-module _ {s : Setup} {x : State} {G : PointsAndFinger} {F : Forces} (b : Small s x G F) where
+module _ {s : Setup} {x : State} {G : PointsAndFinger} {F : Forces} (b : StepRanges s x G F) where
   a : List ℤ
   a = minus (x .newer) (x .older)
 
@@ -132,7 +131,7 @@ none-above : (ns : List ℕ) → T (not (any (ltb 4096) ns)) → Every (λ n. n 
 none-above [] t = tt
 none-above (n ∷ ns) t = let k = or-no (ltb 4096 n) (any (ltb 4096) ns) t in (ltb-no (k .0), none-above ns (k .1))
 
-pub small : (s : Setup) (neck : Neck) (x : State) (F : Forces) → Passed (callRules s neck x F) → Small s x (gradients s neck x) F
+pub small : (s : Setup) (neck : Neck) (x : State) (F : Forces) → Passed (callRules s neck x F) → StepRanges s x (gradients s neck x) F
 unfolding callRules setupRules gradients lengthOk displacementOk contactOk forceOk between
 small s neck x F h =
     let rules = callRules s neck x F in
@@ -148,7 +147,7 @@ small s neck x F h =
       viscous = omega arith;
       plain = large .1 .1 .1 .0;
       mass = leb-yes (mass .1);
-      massive = leb-yes (mass .0);
+      mass-low = leb-yes (mass .0);
       newer = bounded 1048576 (x .newer) (range .newer);
       older = bounded 1048576 (x .older) (range .older);
       contact = bounded 67108864 (x .contact) (range .contact);

@@ -23,13 +23,13 @@ use Rattle.laws.specs.Strings.{_spans_, spans-plus, spans-minus, spans-t
 use Rattle.laws.specs.Nearest.{unique}
 use Rattle.laws.specs.System.{rounded₁-unique, rounded₂-unique}
 use Rattle.laws.specs.Gradient.{gradient-is}
-use Rattle.laws.specs.Accepted.{Sound, Stepped, Examined, accepted-step, step-turn, step-untouched}
+use Rattle.laws.specs.Accepted.{SetupFacts, StepFacts, Examined, accepted-step, step-turn, step-untouched}
 use Rattle.laws.specs.Moves.{A-positive, det-positive, moves-nearest}
 use Rattle.laws.specs.Balance.{fit}
 
 -- ---- it solves them
 
-module _ {s : Setup} {neck : Neck} {x : State} {F : Forces} {y : State} (h : Stepped s neck x F y) where
+module _ {s : Setup} {neck : Neck} {x : State} {F : Forces} {y : State} (h : StepFacts s neck x F y) where
   G : PointsAndFinger
   G = gradients s neck x
 
@@ -80,7 +80,7 @@ module _ {s : Setup} {neck : Neck} {x : State} {F : Forces} {y : State} (h : Ste
 cancel : (v : ℤ) {a b : ℤ} → a -ℤ v ≡ b -ℤ v → a ≡ b
 cancel v {a} {b} q = ≡-from q (solve 3 (λ a b v. a ⊖ b ≐ a ⊖ v ⊖ (b ⊖ v)) tt a b v)
 
-module _ {s : Setup} {x : State} {G : PointsAndFinger} {F : Forces} {y z : State} (ok : Sound s) (hy : Solves s x G F y) (hz : Solves s x G F z) where
+module _ {s : Setup} {x : State} {G : PointsAndFinger} {F : Forces} {y z : State} (ok : SetupFacts s) (hy : Solves s x G F y) (hz : Solves s x G F z) where
   same-point : (i : ℕ) → 1 ≤ i → i ≤ points s → at (y .newer) i ≡ at (z .newer) i
   same-point i h l = go (eqb i (p s)) refl
     where
@@ -88,7 +88,7 @@ module _ {s : Setup} {x : State} {G : PointsAndFinger} {F : Forces} {y z : State
       go true q =
           let here : i ≡ p s = eqb-yes (rw q tt) in
           let t = system s x G F in
-          let d = det-positive s x G F (ok .massive) in
+          let d = det-positive s x G F (ok .mass-low) in
           rw here (cancel (at (x .older) (p s)) (rounded₁-unique t d (hy .at-finger) ∙ sym (rounded₁-unique t d (hz .at-finger))))
       go false q = let d : i ≢ p s = eqb-no (rw q tt) in cancel (at (x .older) i) (unique (A-positive s G i) (hy .away i h l d) (hz .away i h l d))
 
@@ -100,7 +100,7 @@ module _ {s : Setup} {x : State} {G : PointsAndFinger} {F : Forces} {y z : State
       (λ k l. hy .contact (suc k) ∙ ap (λ u. at (x .contact) (suc k) -ℤ at (G .points) (suc k) *ℤ (at u (suc k) -ℤ at (x .older) (suc k))) same-newer ∙ sym (hz .contact (suc k)))
 
   same-height : y .finger .newer ≡ z .finger .newer
-  same-height = let t = system s x G F in let d = det-positive s x G F (ok .massive) in cancel (x .finger .older) (rounded₂-unique t d (hy .at-finger) ∙ sym (rounded₂-unique t d (hz .at-finger)))
+  same-height = let t = system s x G F in let d = det-positive s x G F (ok .mass-low) in cancel (x .finger .older) (rounded₂-unique t d (hy .at-finger) ∙ sym (rounded₂-unique t d (hz .at-finger)))
 
   same-finger-contact : y .finger .contact ≡ z .finger .contact
   same-finger-contact = hy .finger-contact

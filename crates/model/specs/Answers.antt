@@ -6,7 +6,7 @@
 --   step      stepResult turn₀ finger₀ answer first second contact ≡ step s neck v F
 --   block     blockResult answer first second contact samples ≡ block s neck v forces samples₀
 --   newest    answer ≡ newest turn first second, of the references themselves
---   reading   answer ≡ reading s heights first second turn place
+--   reading   answer ≡ reading s heights first second turn place, an enum that is 01's own: free, pressed, or the number
 use mathlib.Core.List.{List}
 use Prim.Native.Nat.{ℕ}
 use lib.IntN.{ℤ}
@@ -28,6 +28,8 @@ use Rattle.model.specs.declared.StartAnswer.the-variants as StartAnswer
 use Rattle.model.specs.declared.StepAnswer.{StepAnswer}
 use Rattle.model.specs.declared.StepAnswer.the-variants as StepAnswer
 use Rattle.model.specs.declared.BlockAnswer.{BlockAnswer}
+use Rattle.model.specs.declared.Reading.{Reading}
+use Rattle.model.specs.declared.Reading.the-variants.{Free, Pressed, Refused}
 
 abbrev pub setupResult : SetupAnswer → Answer Setup
 setupResult (SetupAnswer.Accepted s) = accepted s
@@ -59,3 +61,9 @@ blockResult r first second contact samples = record {
   lent = record { first = first; second = second; contact = contact; turn = r .turn; finger = r .finger };
   samples = samples;
 }
+
+-- the number of a reading's refusal, 0 where it is free or pressed
+abbrev pub readingNumber : Reading → ℕ
+readingNumber (Free u) = 0
+readingNumber (Pressed u depth) = 0
+readingNumber (Refused n) = n

@@ -26,6 +26,10 @@ pub record BlockResult : Type 0 where
   pub lent : Lent
   pub samples : List Float
 
+-- a block that made no step: nothing is written and the count is 0
+abbrev pub blockRefused : Lent → List Float → ℕ → BlockResult
+blockRefused v samples n = record { count = 0; refusal = n; lent = v; samples = samples }
+
 module _ (s : Setup) (neck : Neck) where
   -- steps until the forces end or one is refused; each frame is written in turn, bridge first
   unfoldable pub play : Lent → List Forces → List Float → BlockResult
@@ -47,4 +51,4 @@ module _ (s : Setup) (neck : Neck) where
         ∷ []
 
     unfoldable pub block : BlockResult
-    block = unless (firstOf blockRules) (play v (pairs forces) samples) (λ n. record { count = 0; refusal = n; lent = v; samples = samples })
+    block = unless (firstOf blockRules) (play v (pairs forces) samples) (blockRefused v samples)

@@ -1,7 +1,7 @@
 -- 01, 'What each operation turns down', at its boundaries: the order of each entry's numbers, for all arguments, and the last number inside and
 -- the first outside of each range, computed.
 use mathlib.Core.Path.{_≡_, refl}
-use mathlib.Core.List.{List, [], _∷_, _++_, map, zipWith}
+use mathlib.Core.List.{List, [], _∷_, _++_, zipWith}
 use Prim.Native.Nat.{ℕ, _+_}
 use lib.IntN.{ℤ, pos, negℤ}
 use lib.Ieee.{Float, fin}
@@ -21,6 +21,7 @@ use Rattle.model.specs.Start.{startRules}
 use Rattle.model.specs.Step.{stepRules, callRules, resultRules, gradients, moves, workedStep, nextState, A, c, system}
 use Rattle.model.specs.Block.{blockRules}
 use Rattle.model.specs.Reading.{readingRules}
+use Rattle.model.specs.Table.{Line, _gives_, Right}
 use Rattle.model.specs.Bench.{benchSetup, finger, restingFinger, onePoint, forces}
 use Rattle.model.specs.declared.Setup.{Setup}
 
@@ -53,16 +54,6 @@ module _ (s : Setup) where
 
 -- ---- the boundaries
 
-infix 68 _gives_
-data Row : Type 0 where
-  _gives_ : ℕ → ℕ → Row
-
-computed : Row → ℕ
-computed (a gives b) = a
-
-expected : Row → ℕ
-expected (a gives b) = b
-
 setupOf : (N L M S Z m p e bridge neck : ℕ) → ℕ
 setupOf N L M S Z m p e bridge neck = firstOf (setupRules record {
   segments = N;
@@ -76,7 +67,7 @@ setupOf N L M S Z m p e bridge neck = firstOf (setupRules record {
   «neck_place» = neck;
 })
 
-setupRows : List Row
+setupRows : List (Line ℕ)
 setupRows =
     -- N
     setupOf 1 4096 0 0 0 4096 1 1 1 1 gives 1 ∷ setupOf 2 4096 0 0 0 4096 1 1 1 1 gives 0 ∷ setupOf 128 4096 0 0 0 4096 1 1 1 1 gives 0 ∷ setupOf 129 4096 0 0 0 4096 1 1 1 1 gives 1
@@ -90,7 +81,7 @@ setupRows =
     ∷ setupOf 9 1 0 0 0 4096 1 1 0 1 gives 4 ∷ setupOf 9 1 0 0 0 4096 1 1 9 1 gives 4 ∷ setupOf 9 1 0 0 0 4096 1 1 1 0 gives 4 ∷ setupOf 9 1 0 0 0 4096 1 1 1 9 gives 4
     -- the mass
     ∷ setupOf 2 1 0 0 0 0 1 1 1 1 gives 5 ∷ setupOf 2 1 0 0 0 1 1 1 1 1 gives 0 ∷ setupOf 2 1 0 0 0 1048576 1 1 1 1 gives 0 ∷ setupOf 2 1 0 0 0 1048577 1 1 1 1 gives 5
-    -- each number beaten by the one before it
+    -- each number gives way to the one before it
     ∷ setupOf 0 0 4097 4097 4097 0 0 0 0 0 gives 1 ∷ setupOf 2 0 4096 4096 4096 0 0 0 0 0 gives 2 ∷ setupOf 2 1 4096 4096 4096 0 0 0 0 0 gives 3 ∷ setupOf 2 1 0 0 0 0 0 0 0 0 gives 4
     ∷ []
 
@@ -104,13 +95,13 @@ neckOf b hs ks h frets tip =
 from : ℕ → ℕ → List ℕ
 from i n = tabulate n (λ k. i + k)
 
-neckRows : List Row
+neckRows : List (Line ℕ)
 neckRows =
     neckOf 126 127 127 (pos 0) [] (pos 0) gives 6 ∷ neckOf 127 128 127 (pos 0) [] (pos 0) gives 6 ∷ neckOf 127 127 0 (pos 0) [] (pos 0) gives 6 ∷ neckOf 127 127 127 (pos 0) [] (pos 0) gives 0
     ∷ neckOf 127 127 127 (pos 1) [] (pos 0) gives 7 ∷ neckOf 127 127 127 (negℤ (pos 1048576)) [] (pos 0) gives 0 ∷ neckOf 127 127 127 (negℤ (pos 1048577)) [] (pos 0) gives 7
     -- frets
     ∷ neckOf 127 127 127 (pos 0) (from 1 24) (pos 0) gives 0 ∷ neckOf 127 127 127 (pos 0) (from 104 24) (pos 0) gives 0 ∷ neckOf 127 127 127 (pos 0) (from 1 25) (pos 0) gives 8
-    ∷ neckOf 127 127 127 (pos 0) (0 ∷ []) (pos 0) gives 8 ∷ neckOf 127 127 127 (pos 0) (128 ∷ []) (pos 0) gives 8 ∷ neckOf 127 127 127 (pos 0) (5 ∷ 5 ∷ []) (pos 0) gives 8 ∷ neckOf 127 127 127 (pos 0) (6 ∷ 5 ∷ []) (pos 0) gives 8 ∷ neckOf 127 127 127 (pos 0) (5 ∷ 6 ∷ 6 ∷ []) (pos 0) gives 8
+    ∷ neckOf 127 127 127 (pos 0) (0 ∷ []) (pos 0) gives 8 ∷ neckOf 127 127 127 (pos 0) (128 ∷ []) (pos 0) gives 8 ∷ neckOf 127 127 127 (pos 0) (5 ∷ 5 ∷ []) (pos 0) gives 8 ∷ neckOf 127 127 127 (pos 0) (6 ∷ 5 ∷ []) (pos 0) gives 8 ∷ neckOf 127 127 127 (pos 0) (5 ∷ 6 ∷ 6 ∷ []) (pos 0) gives 8 ∷ neckOf 127 127 127 (pos 0) (5 ∷ 128 ∷ []) (pos 0) gives 8
     -- the tip: not examined with no fret
     ∷ neckOf 127 127 127 (negℤ (pos 9)) (5 ∷ []) (pos 1) gives 9 ∷ neckOf 127 127 127 (negℤ (pos 9)) (5 ∷ []) (negℤ (pos 10)) gives 9 ∷ neckOf 127 127 127 (negℤ (pos 9)) (5 ∷ []) (negℤ (pos 9)) gives 0 ∷ neckOf 127 127 127 (negℤ (pos 9)) [] (pos 1) gives 0
     ∷ []
@@ -119,7 +110,7 @@ neckRows =
 startOf : (first second contact : ℕ) (w w' : ℤ) → ℕ
 startOf a b ψ w w' = firstOf (startRules (benchSetup 1 0 0 0 0) (replicate a (pos 0)) (replicate b (pos 0)) (replicate ψ (pos 0)) w w')
 
-startRows : List Row
+startRows : List (Line ℕ)
 startRows =
     startOf 0 1 1 (pos 0) (pos 0) gives 6 ∷ startOf 1 2 1 (pos 0) (pos 0) gives 6 ∷ startOf 1 1 0 (pos 0) (pos 0) gives 6 ∷ startOf 1 1 1 (pos 0) (pos 0) gives 0
     ∷ startOf 1 1 1 (negℤ (pos 1)) (pos 0) gives 10 ∷ startOf 1 1 1 (pos 1048576) (pos 1048576) gives 0 ∷ startOf 1 1 1 (pos 1048577) (pos 0) gives 10
@@ -137,7 +128,7 @@ string u v = onePoint u v (pos 0) 0 restingFinger
 fingerAt : (w w' φ : ℤ) → Lent
 fingerAt w w' φ = onePoint (pos 0) (pos 0) (pos 0) 0 (finger w w' φ)
 
-stepRows : List Row
+stepRows : List (Line ℕ)
 stepRows =
     -- lengths
     firstOf (stepRules (benchSetup 1 0 0 0 0) (record { heights = []; stiffness = 0 ∷ [] }) (stateOf (string (pos 0) (pos 0))) (forces (pos 0) (pos 0))) gives 6
@@ -174,7 +165,7 @@ stepRows =
 blockOf : (forces samples : ℕ) (h u : ℤ) → ℕ
 blockOf f z h u = firstOf (blockRules (benchSetup 1 0 0 0 0) (record { heights = h ∷ []; stiffness = 0 ∷ [] }) (string u (pos 0)) (replicate f (pos 2000000000)) (replicate z (fin false 0 (pos 0))))
 
-blockRows : List Row
+blockRows : List (Line ℕ)
 blockRows =
     blockOf 0 0 (pos 0) (pos 0) gives 0 ∷ blockOf 2 2 (pos 0) (pos 0) gives 0 ∷ blockOf 1 1 (pos 0) (pos 0) gives 15 ∷ blockOf 2 1 (pos 0) (pos 0) gives 15 ∷ blockOf 2 3 (pos 0) (pos 0) gives 15
     ∷ blockOf 1 1 (pos 1) (pos 0) gives 15 ∷ blockOf 0 0 (pos 1) (pos 1048577) gives 7 ∷ blockOf 0 0 (pos 0) (pos 1048577) gives 11
@@ -184,7 +175,7 @@ blockRows =
 readingOf : (h a b : ℤ) (turn i : ℕ) → ℕ
 readingOf h a b turn i = firstOf (readingRules (benchSetup 1 0 0 0 0) (h ∷ []) (a ∷ []) (b ∷ []) turn i)
 
-readingRows : List Row
+readingRows : List (Line ℕ)
 readingRows =
     readingOf (pos 0) (pos 0) (pos 0) 0 0 gives 4 ∷ readingOf (pos 0) (pos 0) (pos 0) 0 1 gives 0 ∷ readingOf (pos 0) (pos 0) (pos 0) 0 2 gives 4 ∷ readingOf (pos 1) (pos 0) (pos 0) 0 1 gives 7
     -- lengths: heights and both strings
@@ -193,10 +184,10 @@ readingRows =
     ∷ readingOf (pos 0) (pos 1048577) (pos 0) 0 1 gives 11 ∷ readingOf (pos 0) (pos 1048577) (pos 0) 1 1 gives 0 ∷ readingOf (pos 0) (pos 0) (pos 1048577) 0 1 gives 0 ∷ readingOf (pos 0) (pos 0) (pos 1048577) 7 1 gives 11
     ∷ []
 
-rows : List Row
+rows : List (Line ℕ)
 rows = setupRows ++ neckRows ++ startRows ++ stepRows ++ blockRows ++ readingRows
 
-boundaries : map computed rows ≡ map expected rows
-unfolding rows setupRows neckRows startRows stepRows blockRows readingRows computed expected setupOf neckOf from startOf stepOf string fingerAt blockOf readingOf setupRules neckRules startRules stepRules callRules resultRules blockRules readingRules
+boundaries : Right rows
+unfolding rows setupRows neckRows startRows stepRows blockRows readingRows setupOf neckOf from startOf stepOf string fingerAt blockOf readingOf setupRules neckRules startRules stepRules callRules resultRules blockRules readingRules
     placeOk lengthOk between inside heightOk displacementOk contactOk forceOk stateOf gradients gradient root greatest moves workedStep nextState A c system rounded₁ rounded₂ nearest floor plus minus times zipWith D1
 boundaries = refl

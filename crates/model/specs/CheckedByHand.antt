@@ -1,5 +1,6 @@
--- 01, 'Checked by hand': the starred lines, in their order, as one theorem by table over the equations of the public contracts.
-use mathlib.Core.Path.{_≡_, refl}
+-- 01, 'Checked by hand': the starred lines, in their order, as one theorem by table. Answers are whole results of setup, fresh start and step, as
+-- the public contracts equate them; gradients, moves, work and energies are by their definitions.
+use mathlib.Core.Path.{refl}
 use mathlib.Core.Bool.{true, false}
 use mathlib.Core.List.{List, [], _∷_, map, zipWith}
 use lib.IntN.{ℤ, pos, negsuc, negℤ}
@@ -17,6 +18,7 @@ use Rattle.model.specs.Step.{StepResult, step, stepRules, callRules, res
 use Rattle.model.specs.Start.{StartResult, start, startRules, fresh}
 use Rattle.model.specs.Fraction.{fraction}
 use Rattle.model.specs.Energy.{storedEnergy, work, residuals, dotAll, roundingWork}
+use Rattle.model.specs.Table.{Line, _gives_, Right}
 use Rattle.model.specs.Bench.{benchSetup, bench, flatNeck, finger, restingFinger, onePoint, forces}
 use Rattle.model.specs.declared.Setup.{Setup}
 
@@ -27,16 +29,6 @@ pub data Shown : Type 0 where
   isStart : StartResult → Shown
   areSteps : List StepResult → Shown
   areNumbers : List ℤ → Shown
-
-infix 68 _gives_
-pub data Line : Type 0 where
-  _gives_ : Shown → Shown → Line
-
-pub computed : Line → Shown
-computed (a gives b) = a
-
-pub expected : Line → Shown
-expected (a gives b) = b
 
 -- each step is given what the step before it returned or left
 inTurn : Setup → Neck → Lent → List Forces → List StepResult
@@ -58,8 +50,8 @@ one = fin false 1 (negsuc 19)
 minus-one : Float
 minus-one = fin true 1 (negsuc 19)
 
-none : Float
-none = fin false 0 (pos 0)
+zero-float : Float
+zero-float = fin false 0 (pos 0)
 
 minus-twelve : Float
 minus-twelve = fin true 3 (negsuc 17)
@@ -90,21 +82,21 @@ pressing = onePoint (pos 16) (pos 16) (pos 0) 0 (finger (pos 0) (pos 8) (pos 0))
 pressing' : Lent
 pressing' = onePoint (pos 16) (pos 16) (pos 0) 1 (finger (negℤ (pos 8)) (pos 0) (pos 128))
 
-pub lines : List Line
+pub lines : List (Line Shown)
 lines =
     -- a fresh start with both finger heights 0, over buffers that hold anything
     isStart (start bench (pos 7 ∷ []) (pos 8 ∷ []) (pos 9 ∷ []) (pos 0) (pos 0))
     gives isStart record { answer = accepted record { turn = 0; finger = restingFinger }; first = pos 0 ∷ []; second = pos 0 ∷ []; contact = pos 0 ∷ [] }
     -- pluck 4096, then no force: 1, 0, −1, 0
     ∷ plucks (pos 4096 ∷ pos 0 ∷ pos 0 ∷ pos 0 ∷ [])
-    gives areSteps (after one (onePoint (pos 0) (pos 1) (pos 0) 1 restingFinger) ∷ after none (onePoint (pos 0) (pos 1) (pos 0) 0 restingFinger)
-    ∷ after minus-one (onePoint (pos 0) (negℤ (pos 1)) (pos 0) 1 restingFinger) ∷ after none (onePoint (pos 0) (negℤ (pos 1)) (pos 0) 0 restingFinger) ∷ [])
+    gives areSteps (after one (onePoint (pos 0) (pos 1) (pos 0) 1 restingFinger) ∷ after zero-float (onePoint (pos 0) (pos 1) (pos 0) 0 restingFinger)
+    ∷ after minus-one (onePoint (pos 0) (negℤ (pos 1)) (pos 0) 1 restingFinger) ∷ after zero-float (onePoint (pos 0) (negℤ (pos 1)) (pos 0) 0 restingFinger) ∷ [])
     -- stored energy after the first step
     ∷ areNumbers (stored bench (onePoint (pos 0) (pos 1) (pos 0) 1 restingFinger) ∷ []) gives areNumbers (pos 8192 ∷ [])
     -- first plucks
     ∷ plucks (pos 2048 ∷ []) gives areSteps (after one (onePoint (pos 0) (pos 1) (pos 0) 1 restingFinger) ∷ [])
-    ∷ plucks (pos 2047 ∷ []) gives areSteps (after none (onePoint (pos 0) (pos 0) (pos 0) 1 restingFinger) ∷ [])
-    ∷ plucks (negℤ (pos 2048) ∷ []) gives areSteps (after none (onePoint (pos 0) (pos 0) (pos 0) 1 restingFinger) ∷ [])
+    ∷ plucks (pos 2047 ∷ []) gives areSteps (after zero-float (onePoint (pos 0) (pos 0) (pos 0) 1 restingFinger) ∷ [])
+    ∷ plucks (negℤ (pos 2048) ∷ []) gives areSteps (after zero-float (onePoint (pos 0) (pos 0) (pos 0) 1 restingFinger) ∷ [])
     ∷ plucks (negℤ (pos 2049) ∷ []) gives areSteps (after minus-one (onePoint (pos 0) (negℤ (pos 1)) (pos 0) 1 restingFinger) ∷ [])
     -- with 2048: work, rounding work, stored
     ∷ (let t = workedStep bench (flatNeck 0) (stateOf (onePoint (pos 0) (pos 0) (pos 0) 0 restingFinger)) (forces (pos 2048) (pos 0)) in
@@ -123,7 +115,7 @@ lines =
     ∷ isSetup (setup (benchSetup 4093 1 0 0 0)) gives isSetup (refused 3)
     ∷ []
 
-pub checked-by-hand : map computed lines ≡ map expected lines
-unfolding lines computed expected inTurn plucks after one minus-one none minus-twelve sixteen stored unforced onNeck onNeck' pressing pressing' setup start startRules fresh stateOf put step stepRules callRules resultRules setupRules placeOk lengthOk between inside heightOk displacementOk contactOk forceOk
+pub checked-by-hand : Right lines
+unfolding lines inTurn plucks after one minus-one zero-float minus-twelve sixteen stored unforced onNeck onNeck' pressing pressing' setup start startRules fresh stateOf put step stepRules callRules resultRules setupRules placeOk lengthOk between inside heightOk displacementOk contactOk forceOk
     gradients gradient root greatest moves workedStep nextState A c system rounded₁ rounded₂ nearest floor plus minus times zipWith D1 dot E sum storedEnergy work residuals dotAll roundingWork fraction frame round
 checked-by-hand = refl

@@ -16,7 +16,9 @@ pub mod Run
 pub mod Block
 pub mod Reading
 pub mod Answers
+pub mod Table
 pub mod Bench
 pub mod CheckedByHand
 pub mod Worked
+pub mod WorkedCalls
 pub mod Boundaries

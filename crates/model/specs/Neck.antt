@@ -49,6 +49,17 @@ pub record NeckResult : Type 0 where
   pub heights : List ℤ
   pub stiffness : List ℕ
 
+-- a fret's point takes the tip height and the fret stiffness, every other point the board's
+unfoldable pub laid : Setup → Plan → Neck
+laid s plan = record {
+  heights = places (points s) (λ i. cond (fretAt plan i) (plan .tip) (at (plan .board) i));
+  stiffness = places (points s) (λ i. cond (fretAt plan i) (plan .fretStiffness) (plan .boardStiffness));
+}
+
+-- an accepted neck
+abbrev pub laidResult : Neck → NeckResult
+laidResult neck = record { answer = accepted tt; heights = neck .heights; stiffness = neck .stiffness }
+
 -- heights and stiffness are the lent buffers
 module _ (s : Setup) (plan : Plan) (heights : List ℤ) (stiffness : List ℕ) where
   unfoldable pub neckRules : List Rule
@@ -59,14 +70,5 @@ module _ (s : Setup) (plan : Plan) (heights : List ℤ) (stiffness : List ℕ) w
       ∷ tipRule plan
       ∷ []
 
-  -- a fret's point takes the tip height and the fret stiffness, every other point the board's
-  unfoldable pub laid : Neck
-  laid = record {
-    heights = places (points s) (λ i. cond (fretAt plan i) (plan .tip) (at (plan .board) i));
-    stiffness = places (points s) (λ i. cond (fretAt plan i) (plan .fretStiffness) (plan .boardStiffness));
-  }
-
   unfoldable pub lay : NeckResult
-  lay = unless (firstOf neckRules)
-      (record { answer = accepted tt; heights = laid .heights; stiffness = laid .stiffness })
-      (λ n. record { answer = refused n; heights = heights; stiffness = stiffness })
+  lay = unless (firstOf neckRules) (laidResult (laid s plan)) (λ n. record { answer = refused n; heights = heights; stiffness = stiffness })

@@ -17,6 +17,14 @@ use Rattle.model.specs.declared.Setup.{Setup}
 use Rattle.model.specs.declared.Reading.{Reading}
 use Rattle.model.specs.declared.Reading.the-variants.{Free, Pressed, Refused}
 
+-- 6, 7 and 11 of a neck's heights and the newest string
+abbrev pub stringRules : Setup → (heights first second : List ℤ) → ℕ → List Rule
+stringRules s heights first second turn =
+    lengthsRule s (length heights ∷ length first ∷ length second ∷ [])
+    ∷ heightsRule heights
+    ∷ 11 when not (all displacementOk (newest turn first second))
+    ∷ []
+
 -- the neck's heights, the two strings and their turn, the place read
 module _ (s : Setup) (heights first second : List ℤ) (turn : ℕ) (i : ℕ) where
   -- the newest displacement there
@@ -28,12 +36,7 @@ module _ (s : Setup) (heights first second : List ℤ) (turn : ℕ) (i : ℕ) wh
   depth = at heights i -ℤ displacement
 
   unfoldable pub readingRules : List Rule
-  readingRules = setupRules s
-      ++ placesRule s (i ∷ [])
-      ∷ lengthsRule s (length heights ∷ length first ∷ length second ∷ [])
-      ∷ heightsRule heights
-      ∷ 11 when not (all displacementOk (newest turn first second))
-      ∷ []
+  readingRules = setupRules s ++ placesRule s (i ∷ []) ∷ stringRules s heights first second turn
 
   unfoldable pub reading : Reading
   reading = unless (firstOf readingRules)

@@ -12,6 +12,9 @@ pub record Voice : Type 0 where
   pub setup : Setup
   pub lent : Lent
 
+abbrev pub voice : Setup → Lent → Voice
+voice s v = record { setup = s; lent = v }
+
 abbrev pub energyOf : Voice → ℤ
 energyOf v = storedEnergy (v .setup) (stateOf (v .lent))
 
@@ -23,7 +26,7 @@ pub record Call : Type 0 where
 
 -- the voice that it returned or left
 abbrev pub after : Call → Voice
-after k = record { setup = k .before .setup; lent = k .result .lent }
+after k = voice (k .before .setup) (k .result .lent)
 
 module _ (neck : Neck) where
   abbrev pub call : Voice → Forces → Call

@@ -1,4 +1,4 @@
--- 01, 'Setup', under its letters, and the refusals 1 to 5.
+-- 01, 'Setup', under its letters; the refusals 1 to 5, and the rows 4 and 6 that other entries share.
 use mathlib.Core.Bool.{Bool, _||_, not}
 use mathlib.Core.List.{List, [], _∷_}
 use Prim.Native.Nat.{ℕ, _+_, _*_, _-_}
@@ -60,6 +60,7 @@ module _ (s : Setup) where
   abbrev pub lengthsRule : List ℕ → Rule
   lengthsRule ns = 6 when not (all lengthOk ns)
 
+  -- In document 000's symbols L, M, S and Z are 4096 times T0·k²/(ρA·h²), E·I·k²/(ρA·h⁴), 2·σ1·k/h² and σ0·k; the sum rule, 3, is condition (17) of document 001.
   unfoldable pub setupRules : List Rule
   setupRules =
       1 when not (between 2 N 128)

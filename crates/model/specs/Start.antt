@@ -23,6 +23,10 @@ pub record StartResult : Type 0 where
   pub second : List ℤ
   pub contact : List ℤ
 
+-- an accepted fresh start
+abbrev pub startedResult : Lent → StartResult
+startedResult v = record { answer = accepted record { turn = v .turn; finger = v .finger }; first = v .first; second = v .second; contact = v .contact }
+
 -- first, second and contact are the lent buffers
 module _ (s : Setup) (first second contact : List ℤ) (w w' : ℤ) where
   unfoldable pub startRules : List Rule
@@ -32,6 +36,4 @@ module _ (s : Setup) (first second contact : List ℤ) (w w' : ℤ) where
       ∷ []
 
   unfoldable pub start : StartResult
-  start = unless (firstOf startRules)
-      (let v = fresh s w w' in record { answer = accepted record { turn = v .turn; finger = v .finger }; first = v .first; second = v .second; contact = v .contact })
-      (λ n. record { answer = refused n; first = first; second = second; contact = contact })
+  start = unless (firstOf startRules) (startedResult (fresh s w w')) (λ n. record { answer = refused n; first = first; second = second; contact = contact })

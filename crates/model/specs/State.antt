@@ -11,7 +11,7 @@ pub record State : Type 0 where
   pub contact : List ℤ
   pub finger : Finger
 
--- what is passed with every call: the lent string and contact buffers, the turn number and the finger
+-- what is passed with every call: the string and contact buffers, which are lent, and with them the turn number and the finger
 pub record Lent : Type 0 where
   pub first : List ℤ
   pub second : List ℤ

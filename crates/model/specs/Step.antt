@@ -34,6 +34,7 @@ gradients s neck x = record {
 abbrev pub underFinger {ℓ} : {B : Type ℓ} → Setup → ℕ → B → B → B
 underFinger s i a b = cond (eqb i (p s)) a b
 
+-- 4096 is a string point's mass
 unfoldable pub A : Setup → PointsAndFinger → ℕ → ℤ
 A s G i = pos 4096 +ℤ pos (Z s) +ℤ at (G .points) i *ℤ at (G .points) i
 

@@ -1,22 +1,22 @@
 // The types of the string voice: a setup, a finger, a pickup frame, and what each operation answers.
 // What they mean is in specs/, a file for each section of document 01.
 
-// 01, 'Setup': what the finger brings to it.
+// 01, 'Setup': what the finger brings to it, under 01's letters p, K and m.
 pub struct FingerSetup {
-    pub place: u32,
-    pub stiffness: u16,
-    pub mass: u32,
+    pub place: u32, // p
+    pub stiffness: u16, // K
+    pub mass: u32, // m
 }
 
-// 01, 'Setup'. The letters that 01 gives the fields are in specs/Setup.antt.
+// 01, 'Setup'.
 pub struct Setup {
-    pub segments: u32,
-    pub tension: u32,
-    pub stiffness: u32,
-    pub viscous: u32,
-    pub plain: u32,
+    pub segments: u32, // N
+    pub tension: u32, // L
+    pub stiffness: u32, // M
+    pub viscous: u32, // S, viscous loss
+    pub plain: u32, // Z, plain loss
     pub finger: FingerSetup,
-    pub pluck_place: u32,
+    pub pluck_place: u32, // e
     pub bridge_place: u32,
     pub neck_place: u32,
 }

@@ -1,12 +1,11 @@
--- Closed instances of the promises, by computation alone: the hypotheses of demand 3 hold together, and each claim holds where it is tight, so
--- that a stronger or another claim is false there.
+-- Closed instances of the promises, by computation alone, at values where a claim is tight, so that a stronger or another claim is false there.
 use mathlib.Core.Path.{_≡_, refl, sym, _∙_, ap}
 use mathlib.Core.Logic.{inl}
 use mathlib.Core.Bool.{true, false, not}
 use mathlib.Core.List.{List, [], _∷_, zipWith}
 use Prim.Native.Nat.{ℕ, zero, suc}
 use native.Mathlib.Omega.{arith}
-use lib.Dec.{T, ltb, eqb}
+use lib.Dec.{T, ltb, eqb, lit≤, lit<}
 use lib.IntN.{ℤ, pos, negsuc, negℤ, natAbs}
 use lib.Signed.{leZ-yes, ltZ-yes}
 use lib.Ieee.{nan, fin, round}
@@ -16,6 +15,7 @@ use Rattle.model.specs.Fraction.{fraction}
 use Rattle.model.specs.Reading.{readingRules, reading}
 use Rattle.integers.specs.Sum.{sum}
 use Rattle.model.specs.Ranges.{between, inside, displacementOk, contactOk, forceOk, heightOk}
+use Rattle.model.specs.Refusal.{_when_}
 use Rattle.model.specs.Setup.{setup, setupRules, placeOk, lengthOk}
 use Rattle.model.specs.Differences.{at, plus, minus, times, D1, dot, E}
 use Rattle.model.specs.Gradient.{gradient, root, greatest}
@@ -24,10 +24,10 @@ use Rattle.model.specs.System.{System, rounded₁, rounded₂}
 use Rattle.model.specs.State.{State, Lent, stateOf, put, Neck, Forces}
 use Rattle.model.specs.Step.{gradients, A, c, system, moves, workedStep, nextState, callRules, resultRules, stepRules, frame, step}
 use Rattle.model.specs.Energy.{storedEnergy, dotAll, loss, work, residuals, limits, roundingWork, roundingLimit}
-use Rattle.model.specs.Run.{Voice, history, acceptedSteps, voiceAfter, sumOver}
-use Rattle.model.specs.Bench.{benchSetup, flatNeck, finger, onePoint, forces}
+use Rattle.model.specs.Run.{Voice, voice, history, acceptedSteps, voiceAfter, sumOver}
+use Rattle.model.specs.Bench.{benchSetup, flatNeck, finger, restingFinger, onePoint, forces}
 use Rattle.model.specs.declared.Setup.{Setup}
-use Rattle.promises.specs.Promises.{IsNearest, IsRounded, Solves, Run, flips, frameSamples, Plays, Reads}
+use Rattle.promises.specs.Promises.{Refuses, IsNearest, IsRounded, AreGradients, Solves, Run, flips, frameSamples, Plays, Shows}
 
 -- ---- rounding
 
@@ -54,6 +54,13 @@ pair-rounded = record {
   near₁ = record { near = leZ-yes tt; tie = λ q. ltZ-yes tt };
   near₂ = record { near = leZ-yes tt; tie = λ q. ltZ-yes tt };
 }
+
+-- ---- refusals
+
+-- L = 4093 and M = 1 are refused with 3: 1 and 2 are passed, and the sum is above 4096
+refused-with-three : let s = benchSetup 4093 1 0 0 0 in Refuses (setupRules s) (setup s)
+unfolding setup setupRules placeOk between
+refused-with-three = (lit≤ tt, (1 when false ∷ 2 when false ∷ [], (4 when false ∷ 5 when false ∷ [], (refl, (tt, (tt, tt))))))
 
 -- ---- demand 2
 
@@ -91,6 +98,18 @@ by-place P a b c d (suc zero) = b
 by-place P a b c d (suc (suc zero)) = c
 by-place P a b c d (suc (suc (suc k))) = d k
 
+-- 176 for stiffness 20000 and depth 25, none for a depth of −80, 17 for the finger's stiffness 300 and depth 18
+gradients-are : AreGradients three threeNeck x (gradients three threeNeck x)
+unfolding gradients gradient root greatest minus zipWith
+gradients-are = record {
+  length-points = refl;
+  point = by-place _
+      (λ l. record { free = λ h. absurd (h .le); contact = λ h. (176, (refl, record { low = lit≤ tt; high = lit< tt })) })
+      (λ l. record { free = λ h. refl; contact = λ h. absurd (h .lt) })
+      (λ l. absurd (omega arith)) (λ k l. absurd (omega arith));
+  finger = record { free = λ h. absurd (h .le); contact = λ h. (17, (refl, record { low = lit≤ tt; high = lit< tt })) };
+}
+
 solved : Solves three x (gradients three threeNeck x) (forces (pos 5000) (pos 2000000)) y
 unfolding gradients gradient root greatest A c system minus zipWith D1
 solved = record {
@@ -115,8 +134,8 @@ solved = record {
 
 -- ---- demand 3
 
-abbrev voice : (L M S Z K : ℕ) (w' : ℤ) → Voice
-voice L M S Z K w' = record { setup = benchSetup L M S Z K; lent = onePoint (pos 0) (pos 0) (pos 0) 0 (finger (pos 0) w' (pos 0)) }
+abbrev benchVoice : (L M S Z K : ℕ) (w' : ℤ) → Voice
+benchVoice L M S Z K w' = record { setup = benchSetup L M S Z K; lent = onePoint (pos 0) (pos 0) (pos 0) 0 (finger (pos 0) w' (pos 0)) }
 
 none : Forces
 none = forces (pos 0) (pos 0)
@@ -130,13 +149,15 @@ forced {f} q t = absurd (rw q at t)
 
 runs :
     -- at rest the energy is 0
-    Run (flatNeck 0) (voice 4096 0 0 0 0 (pos 0)) []
+    Run (flatNeck 0) (benchVoice 4096 0 0 0 0 (pos 0)) []
     -- a pluck of 2048 is a tie: its doubled residual and its rounding work reach their limits
-    × Run (flatNeck 0) (voice 4096 0 0 0 0 (pos 0)) (forces (pos 2048) (pos 0) ∷ [])
+    × Run (flatNeck 0) (benchVoice 4096 0 0 0 0 (pos 0)) (forces (pos 2048) (pos 0) ∷ [])
     -- with losses, and a refused step in between
-    × Run (flatNeck 0) (voice 100 10 50 100 0 (pos 0)) (forces (pos 409600) (pos 777) ∷ forces (pos 2000000000) (pos 0) ∷ none ∷ [])
+    × Run (flatNeck 0) (benchVoice 100 10 50 100 0 (pos 0)) (forces (pos 409600) (pos 777) ∷ forces (pos 2000000000) (pos 0) ∷ none ∷ [])
     -- lossless and unforced: the finger strikes the string, and rounding changes the stored energy, 524,288, by 512
-    × Run (flatNeck 0) (voice 1 0 0 0 65535 (pos 8)) (none ∷ none ∷ none ∷ [])
+    × Run (flatNeck 0) (benchVoice 1 0 0 0 65535 (pos 8)) (none ∷ none ∷ none ∷ [])
+    -- lossless and unforced, and a tie: the stored energy rises from 4,194,304 by 4096, which is its bound
+    × Run (flatNeck 0) (voice (benchSetup 1 0 0 0 0) (onePoint (negℤ (pos 1024)) (negℤ (pos 1024)) (pos 0) 0 restingFinger)) (none ∷ [])
 unfolding none history voiceAfter acceptedSteps sumOver stateOf put storedEnergy loss work residuals limits roundingWork roundingLimit dotAll step stepRules callRules resultRules setupRules placeOk lengthOk between inside heightOk displacementOk contactOk forceOk
     workedStep gradients gradient root greatest moves A c system rounded₁ rounded₂ nearest floor nextState frame plus minus times zipWith D1 dot E sum
 runs = (
@@ -156,6 +177,7 @@ runs = (
     bounded = leZ-yes tt;
     conserved = λ l u. leZ-yes tt;
   },
+  record { never-negative = leZ-yes tt; exact = equal (pos 4198400) refl refl; limited = (record { points = (leZ-yes tt, tt); finger = leZ-yes tt }, tt); bounded = leZ-yes tt; conserved = λ l u. leZ-yes tt },
 )
 
 -- ---- a block and a reading
@@ -168,7 +190,7 @@ lent = record { first = x .newer; second = x .older; contact = x .contact; turn 
 abbrev two : List Forces
 two = forces (pos 5000) (pos 2000000) ∷ forces (pos 2000000000) (pos 0) ∷ []
 
-played : Plays threeNeck (record { setup = three; lent = lent }) two (replicate 4 nan) record {
+played : Plays threeNeck (voice three lent) two (replicate 4 nan) record {
   count = 1;
   refusal = 12;
   lent = record { first = x .newer; second = y .newer; contact = y .contact; turn = 1; finger = y .finger };
@@ -176,13 +198,13 @@ played : Plays threeNeck (record { setup = three; lent = lent }) two (replicate 
 }
 unfolding history voiceAfter acceptedSteps flips frameSamples stateOf put step stepRules callRules resultRules setupRules placeOk lengthOk between inside heightOk displacementOk contactOk forceOk
     workedStep gradients gradient root greatest moves A c system rounded₁ rounded₂ nearest floor nextState frame fraction round plus minus times zipWith D1
-played = record { calls = history threeNeck (record { setup = three; lent = lent }) (forces (pos 5000) (pos 2000000) ∷ []); run = refl; count = refl; turn = refl; lent = refl; samples = refl; stops = (refl, inl refl) }
+played = record { calls = history threeNeck (voice three lent) (forces (pos 5000) (pos 2000000) ∷ []); run = refl; count = refl; turn = refl; lent = refl; samples = refl; stops = (refl, inl refl) }
 
 -- place 1 is pressed to the depth 25, place 2 is free
-pressed : Reads (negℤ (pos 25)) (pos 25) 0 (reading three (threeNeck .heights) (lent .first) (lent .second) 0 1)
+pressed : Shows (negℤ (pos 25)) (pos 25) (reading three (threeNeck .heights) (lent .first) (lent .second) 0 1)
 unfolding reading readingRules setupRules placeOk lengthOk between inside heightOk displacementOk fraction round
-pressed = (refl, ltZ-yes tt, (refl, refl), (refl, refl))
+pressed = (ltZ-yes tt, (refl, refl), (refl, refl))
 
-free : Reads (pos 30) (negℤ (pos 80)) 0 (reading three (threeNeck .heights) (lent .first) (lent .second) 0 2)
+free : Shows (pos 30) (negℤ (pos 80)) (reading three (threeNeck .heights) (lent .first) (lent .second) 0 2)
 unfolding reading readingRules setupRules placeOk lengthOk between inside heightOk displacementOk fraction round
-free = (refl, leZ-yes tt, (refl, refl))
+free = (leZ-yes tt, (refl, refl))

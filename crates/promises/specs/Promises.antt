@@ -10,21 +10,24 @@ use lib.Signed.{_≤ℤ_, _<ℤ_}
 use lib.Ieee.{Float}
 use lib.ListN.{length, take, drop, getD}
 use Rattle.integers.specs.Size.{size}
-use Rattle.model.specs.Refusal.{Rule, _when_, firstOf, Answer, accepted, refused}
+use Rattle.model.specs.Refusal.{Rule, _when_, Answer, accepted, refused}
 use Rattle.model.specs.Setup.{N, K, p, points, setup, setupRules}
 use Rattle.model.specs.Differences.{at}
+use Rattle.model.specs.Rounding.{nearest}
 use Rattle.model.specs.System.{System}
 use Rattle.model.specs.State.{State, Lent, byTurn, newest, stateOf, Neck, Forces, PointsAndFinger}
-use Rattle.model.specs.Neck.{Plan, neckRules, lay}
-use Rattle.model.specs.Start.{startRules, start}
+use Rattle.model.specs.Neck.{Plan, fretAt, neckRules, laidResult, lay}
+use Rattle.model.specs.Start.{startRules, fresh, startedResult, start}
 use Rattle.model.specs.Step.{A, c, system, gradients, WorkedStep, stepRules, step}
 use Rattle.model.specs.Energy.{loss, work, residuals, limits, roundingWork, roundingLimit}
-use Rattle.model.specs.Run.{Voice, energyOf, Call, history, acceptedSteps, voiceAfter, sumOver}
+use Rattle.model.specs.Run.{Voice, voice, energyOf, Call, history, acceptedSteps, voiceAfter, sumOver}
 use Rattle.model.specs.Fraction.{Holds}
-use Rattle.model.specs.Block.{pairs, BlockResult, blockRules, block}
+use Rattle.model.specs.Block.{pairs, BlockResult, blockRefused, blockRules, block}
 use Rattle.model.specs.Reading.{readingRules, reading}
+use Rattle.model.specs.Answers.{readingNumber}
 use Rattle.model.specs.declared.Setup.{Setup}
 use Rattle.model.specs.declared.Frame.{Frame}
+use Rattle.model.specs.declared.Started.{Started}
 use Rattle.model.specs.declared.Reading.{Reading}
 use Rattle.model.specs.declared.Reading.the-variants.{Free, Pressed, Refused}
 
@@ -57,9 +60,21 @@ pub record Demand1 : Type 0 where
   pub starts : (s : Setup) (first second contact : List ℤ) (w w' : ℤ) → let r = start s first second contact w w' in
       Refuses (startRules s first second contact w w') (r .answer) × Leaves (r .answer) first (r .first) × Leaves (r .answer) second (r .second) × Leaves (r .answer) contact (r .contact)
   pub steps : (s : Setup) (neck : Neck) (v : Lent) (F : Forces) → let r = step s neck v F in Refuses (stepRules s neck (stateOf v) F) (r .answer) × Leaves (r .answer) v (r .lent)
-  -- of a block and a reading, the number that `Blocks` and `Readings` speak of
-  pub blocks : (s : Setup) (neck : Neck) (v : Lent) (forces : List ℤ) (samples : List Float) → let rules = blockRules s neck v forces samples in IsFirst rules (firstOf rules)
-  pub readings : (s : Setup) (heights first second : List ℤ) (turn i : ℕ) → let rules = readingRules s heights first second turn i in IsFirst rules (firstOf rules)
+  -- a table gives one number: so each is given just when its condition holds and no earlier one does
+  pub one-number : (rules : List Rule) (m n : ℕ) → IsFirst rules m → IsFirst rules n → m ≡ n
+
+-- ---- what is accepted: the setup itself, a neck as planned, a fresh start
+
+-- of a laid neck, at place i: a fret's point takes the tip height and the fret stiffness, every other point the board's
+pub record LaidAt (plan : Plan) (i : ℕ) (height : ℤ) (stiffness : ℕ) : Type 0 where
+  pub fret : T (fretAt plan i) → (height ≡ plan .tip) × (stiffness ≡ plan .fretStiffness)
+  pub board : T (not (fretAt plan i)) → (height ≡ at (plan .board) i) × (stiffness ≡ plan .boardStiffness)
+
+pub record Accepts : Type 0 where
+  pub setups : (s a : Setup) → setup s ≡ accepted a → a ≡ s
+  pub necks : (s : Setup) (plan : Plan) (heights : List ℤ) (stiffness : List ℕ) → let r = lay s plan heights stiffness in r .answer ≡ accepted tt
+      → (length (r .heights) ≡ points s) × (length (r .stiffness) ≡ points s) × ((k : ℕ) → k < points s → LaidAt plan (suc k) (getD (r .heights) k (pos 0)) (getD (r .stiffness) k 0))
+  pub starts : (s : Setup) (first second contact : List ℤ) (w w' : ℤ) (a : Started) → let r = start s first second contact w w' in r .answer ≡ accepted a → r ≡ startedResult (fresh s w w')
 
 -- ---- rounding: to the nearest whole number, a tie to the greater
 
@@ -69,6 +84,10 @@ pub record IsNearest (a b q : ℤ) : Type 0 where
   pub near : size (pos 2 *ℤ (b *ℤ q -ℤ a)) ≤ℤ b
   -- where it is one half from it, q is the greater of the two whole numbers that are
   pub tie : size (pos 2 *ℤ (b *ℤ q -ℤ a)) ≡ b → a <ℤ (b *ℤ q)
+
+-- what the model rounds to is nearest, and the only such number
+abbrev pub Rounding : Type 0
+Rounding = (a b : ℤ) → pos 0 <ℤ b → IsNearest a b (nearest a b) × ((q : ℤ) → IsNearest a b q → q ≡ nearest a b)
 
 -- x and y are nearest the exact solution X / D, Y / D of the two equations
 pub record IsRounded (t : System) (x y : ℤ) : Type 0 where
@@ -170,18 +189,21 @@ pub record Claims (start last : Voice) (steps : List WorkedStep) : Type 0 where
 abbrev pub Run : Neck → Voice → List Forces → Type 0
 Run neck v Fs = let calls = history neck v Fs in Claims v (voiceAfter v calls) (acceptedSteps neck calls)
 
+-- the claims hold where the setup passed 1 to 5 and both strings have its length, on any neck
+abbrev pub Runs : Type 0
+Runs = (s : Setup) (neck : Neck) (v : Lent) → Passed (setupRules s) → length (v .first) ≡ points s → length (v .second) ≡ points s → (Fs : List Forces) → Run neck (voice s v) Fs
+
+-- 01's words. `Runs` asks for less: of the setup that it is accepted by the fresh start, of the neck nothing.
 abbrev pub Demand3 : Type 0
 Demand3 =
     -- for any accepted setup,
     (s : Setup) → setup s ≡ accepted s
     -- any neck laid for its N, with any accepted setup that has it,
-    → (t : Setup) → setup t ≡ accepted t → N t ≡ N s → (plan : Plan) (heights : List ℤ) (stiffness : List ℕ) (neck : Neck)
-    → lay t plan heights stiffness ≡ record { answer = accepted tt; heights = neck .heights; stiffness = neck .stiffness }
+    → (t : Setup) → setup t ≡ accepted t → N t ≡ N s → (plan : Plan) (heights : List ℤ) (stiffness : List ℕ) (neck : Neck) → lay t plan heights stiffness ≡ laidResult neck
     -- and any fresh start accepted on it,
-    → (first second contact : List ℤ) (w w' : ℤ) (v : Lent)
-    → start s first second contact w w' ≡ record { answer = accepted record { turn = v .turn; finger = v .finger }; first = v .first; second = v .second; contact = v .contact }
+    → (first second contact : List ℤ) (w w' : ℤ) (v : Lent) → start s first second contact w w' ≡ startedResult v
     -- and for every list of steps with any forces, refused steps included
-    → (Fs : List Forces) → Run neck (record { setup = s; lent = v }) Fs
+    → (Fs : List Forces) → Run neck (voice s v) Fs
 
 -- ---- a block
 
@@ -213,12 +235,12 @@ pub record Plays (neck : Neck) (v : Voice) (Fs : List Forces) (lentSamples : Lis
   pub stops : Stops neck (voiceAfter v calls) (drop (b .count) Fs) (b .refusal)
 
 pub record Blocks : Type 0 where
-  -- where its own table gives no number, a block plays
-  pub played : (s : Setup) (neck : Neck) (v : Lent) (forces : List ℤ) (samples : List Float) → firstOf (blockRules s neck v forces samples) ≡ 0
-      → Plays neck (record { setup = s; lent = v }) (pairs forces) samples (block s neck v forces samples)
-  -- where it gives one, nothing is written and the count is 0
-  pub turned-down : (s : Setup) (neck : Neck) (v : Lent) (forces : List ℤ) (samples : List Float) (n : ℕ) → firstOf (blockRules s neck v forces samples) ≡ suc n
-      → block s neck v forces samples ≡ record { count = 0; refusal = suc n; lent = v; samples = samples }
+  -- where its own table is passed, a block plays
+  pub played : (s : Setup) (neck : Neck) (v : Lent) (forces : List ℤ) (samples : List Float) → Passed (blockRules s neck v forces samples)
+      → Plays neck (voice s v) (pairs forces) samples (block s neck v forces samples)
+  -- where a number is given, nothing is written and the count is 0
+  pub turned-down : (s : Setup) (neck : Neck) (v : Lent) (forces : List ℤ) (samples : List Float) (n : ℕ) → IsFirst (blockRules s neck v forces samples) (suc n)
+      → block s neck v forces samples ≡ blockRefused v samples (suc n)
 
 -- ---- frames and readings lose nothing
 
@@ -227,12 +249,13 @@ abbrev pub Frames : Type 0
 Frames = (s : Setup) (neck : Neck) (v : Lent) (F : Forces) (f : Frame) → let r = step s neck v F in r .answer ≡ accepted f
     → let u = stateOf (r .lent) .newer in Holds (f .bridge) (at u (s .«bridge_place»)) × Holds (f .neck) (at u (s .«neck_place»))
 
--- what a reading holds, of the newest displacement u and the depth at its place and the number that its table gives
-abbrev pub Reads : ℤ → ℤ → ℕ → Reading → Type 0
-Reads u depth n (Free a) = (n ≡ 0) × (depth ≤ℤ pos 0) × Holds a u
-Reads u depth n (Pressed a b) = (n ≡ 0) × (pos 0 <ℤ depth) × Holds a u × Holds b depth
-Reads u depth n (Refused k) = (1 ≤ n) × (k ≡ n)
+-- what the cases of a reading hold, of the newest displacement u and the depth at the place
+abbrev pub Shows : ℤ → ℤ → Reading → Type 0
+Shows u depth (Free a) = (depth ≤ℤ pos 0) × Holds a u
+Shows u depth (Pressed a b) = (pos 0 <ℤ depth) × Holds a u × Holds b depth
+Shows u depth (Refused n) = 1 ≤ n
 
 abbrev pub Readings : Type 0
-Readings = (s : Setup) (heights first second : List ℤ) (turn i : ℕ) → let u = at (byTurn turn first second) i in
-    Reads u (at heights i -ℤ u) (firstOf (readingRules s heights first second turn i)) (reading s heights first second turn i)
+Readings = (s : Setup) (heights first second : List ℤ) (turn i : ℕ) → let u = at (newest turn first second) i in
+    let r = reading s heights first second turn i in
+    IsFirst (readingRules s heights first second turn i) (readingNumber r) × Shows u (at heights i -ℤ u) r
