@@ -70,19 +70,26 @@ setupOf N L M S Z m p e bridge neck = firstOf (setupRules record {
 setupRows : List (Line ℕ)
 setupRows =
     -- N
-    setupOf 1 4096 0 0 0 4096 1 1 1 1 gives 1 ∷ setupOf 2 4096 0 0 0 4096 1 1 1 1 gives 0 ∷ setupOf 128 4096 0 0 0 4096 1 1 1 1 gives 0 ∷ setupOf 129 4096 0 0 0 4096 1 1 1 1 gives 1
+    setupOf 1 4096 0 0 0 4096 1 1 1 1 gives 1 ∷ setupOf 2 4096 0 0 0 4096 1 1 1 1 gives 0 ∷ setupOf 128 4096 0 0 0 4096 1 1 1 1 gives 0
+    ∷ setupOf 129 4096 0 0 0 4096 1 1 1 1 gives 1
     -- L, M, S, Z
     ∷ setupOf 2 0 0 0 0 4096 1 1 1 1 gives 2 ∷ setupOf 2 1 0 0 0 4096 1 1 1 1 gives 0 ∷ setupOf 2 4097 0 0 0 4096 1 1 1 1 gives 2
-    ∷ setupOf 2 1 4097 0 0 4096 1 1 1 1 gives 2 ∷ setupOf 2 1 0 4097 0 4096 1 1 1 1 gives 2 ∷ setupOf 2 1 0 0 4096 4096 1 1 1 1 gives 0 ∷ setupOf 2 1 0 0 4097 4096 1 1 1 1 gives 2
+    ∷ setupOf 2 1 4097 0 0 4096 1 1 1 1 gives 2 ∷ setupOf 2 1 0 4097 0 4096 1 1 1 1 gives 2 ∷ setupOf 2 1 0 0 4096 4096 1 1 1 1 gives 0
+    ∷ setupOf 2 1 0 0 4097 4096 1 1 1 1 gives 2
     -- the sum
-    ∷ setupOf 2 1 4096 0 0 4096 1 1 1 1 gives 3 ∷ setupOf 2 1 0 4096 0 4096 1 1 1 1 gives 3 ∷ setupOf 2 4 1021 4 0 4096 1 1 1 1 gives 0 ∷ setupOf 2 5 1021 4 0 4096 1 1 1 1 gives 3
+    ∷ setupOf 2 1 4096 0 0 4096 1 1 1 1 gives 3 ∷ setupOf 2 1 0 4096 0 4096 1 1 1 1 gives 3 ∷ setupOf 2 4 1021 4 0 4096 1 1 1 1 gives 0
+    ∷ setupOf 2 5 1021 4 0 4096 1 1 1 1 gives 3
     -- the places
-    ∷ setupOf 9 1 0 0 0 4096 8 8 8 8 gives 0 ∷ setupOf 9 1 0 0 0 4096 0 1 1 1 gives 4 ∷ setupOf 9 1 0 0 0 4096 9 1 1 1 gives 4 ∷ setupOf 9 1 0 0 0 4096 1 0 1 1 gives 4 ∷ setupOf 9 1 0 0 0 4096 1 9 1 1 gives 4
-    ∷ setupOf 9 1 0 0 0 4096 1 1 0 1 gives 4 ∷ setupOf 9 1 0 0 0 4096 1 1 9 1 gives 4 ∷ setupOf 9 1 0 0 0 4096 1 1 1 0 gives 4 ∷ setupOf 9 1 0 0 0 4096 1 1 1 9 gives 4
+    ∷ setupOf 9 1 0 0 0 4096 8 8 8 8 gives 0 ∷ setupOf 9 1 0 0 0 4096 0 1 1 1 gives 4 ∷ setupOf 9 1 0 0 0 4096 9 1 1 1 gives 4
+    ∷ setupOf 9 1 0 0 0 4096 1 0 1 1 gives 4 ∷ setupOf 9 1 0 0 0 4096 1 9 1 1 gives 4
+    ∷ setupOf 9 1 0 0 0 4096 1 1 0 1 gives 4 ∷ setupOf 9 1 0 0 0 4096 1 1 9 1 gives 4 ∷ setupOf 9 1 0 0 0 4096 1 1 1 0 gives 4
+    ∷ setupOf 9 1 0 0 0 4096 1 1 1 9 gives 4
     -- the mass
-    ∷ setupOf 2 1 0 0 0 0 1 1 1 1 gives 5 ∷ setupOf 2 1 0 0 0 1 1 1 1 1 gives 0 ∷ setupOf 2 1 0 0 0 1048576 1 1 1 1 gives 0 ∷ setupOf 2 1 0 0 0 1048577 1 1 1 1 gives 5
+    ∷ setupOf 2 1 0 0 0 0 1 1 1 1 gives 5 ∷ setupOf 2 1 0 0 0 1 1 1 1 1 gives 0 ∷ setupOf 2 1 0 0 0 1048576 1 1 1 1 gives 0
+    ∷ setupOf 2 1 0 0 0 1048577 1 1 1 1 gives 5
     -- each number gives way to the one before it
-    ∷ setupOf 0 0 4097 4097 4097 0 0 0 0 0 gives 1 ∷ setupOf 2 0 4096 4096 4096 0 0 0 0 0 gives 2 ∷ setupOf 2 1 4096 4096 4096 0 0 0 0 0 gives 3 ∷ setupOf 2 1 0 0 0 0 0 0 0 0 gives 4
+    ∷ setupOf 0 0 4097 4097 4097 0 0 0 0 0 gives 1 ∷ setupOf 2 0 4096 4096 4096 0 0 0 0 0 gives 2 ∷ setupOf 2 1 4096 4096 4096 0 0 0 0 0 gives 3
+    ∷ setupOf 2 1 0 0 0 0 0 0 0 0 gives 4
     ∷ []
 
 -- N = 128: buffers of these lengths, every board height h, frets and tip
@@ -97,13 +104,19 @@ from i n = tabulate n (λ k. i + k)
 
 neckRows : List (Line ℕ)
 neckRows =
-    neckOf 126 127 127 (pos 0) [] (pos 0) gives 6 ∷ neckOf 127 128 127 (pos 0) [] (pos 0) gives 6 ∷ neckOf 127 127 0 (pos 0) [] (pos 0) gives 6 ∷ neckOf 127 127 127 (pos 0) [] (pos 0) gives 0
-    ∷ neckOf 127 127 127 (pos 1) [] (pos 0) gives 7 ∷ neckOf 127 127 127 (negℤ (pos 1048576)) [] (pos 0) gives 0 ∷ neckOf 127 127 127 (negℤ (pos 1048577)) [] (pos 0) gives 7
+    neckOf 126 127 127 (pos 0) [] (pos 0) gives 6 ∷ neckOf 127 128 127 (pos 0) [] (pos 0) gives 6 ∷ neckOf 127 127 0 (pos 0) [] (pos 0) gives 6
+    ∷ neckOf 127 127 127 (pos 0) [] (pos 0) gives 0
+    ∷ neckOf 127 127 127 (pos 1) [] (pos 0) gives 7 ∷ neckOf 127 127 127 (negℤ (pos 1048576)) [] (pos 0) gives 0
+    ∷ neckOf 127 127 127 (negℤ (pos 1048577)) [] (pos 0) gives 7
     -- frets
-    ∷ neckOf 127 127 127 (pos 0) (from 1 24) (pos 0) gives 0 ∷ neckOf 127 127 127 (pos 0) (from 104 24) (pos 0) gives 0 ∷ neckOf 127 127 127 (pos 0) (from 1 25) (pos 0) gives 8
-    ∷ neckOf 127 127 127 (pos 0) (0 ∷ []) (pos 0) gives 8 ∷ neckOf 127 127 127 (pos 0) (128 ∷ []) (pos 0) gives 8 ∷ neckOf 127 127 127 (pos 0) (5 ∷ 5 ∷ []) (pos 0) gives 8 ∷ neckOf 127 127 127 (pos 0) (6 ∷ 5 ∷ []) (pos 0) gives 8 ∷ neckOf 127 127 127 (pos 0) (5 ∷ 6 ∷ 6 ∷ []) (pos 0) gives 8 ∷ neckOf 127 127 127 (pos 0) (5 ∷ 128 ∷ []) (pos 0) gives 8
+    ∷ neckOf 127 127 127 (pos 0) (from 1 24) (pos 0) gives 0 ∷ neckOf 127 127 127 (pos 0) (from 104 24) (pos 0) gives 0
+    ∷ neckOf 127 127 127 (pos 0) (from 1 25) (pos 0) gives 8
+    ∷ neckOf 127 127 127 (pos 0) (0 ∷ []) (pos 0) gives 8 ∷ neckOf 127 127 127 (pos 0) (128 ∷ []) (pos 0) gives 8
+    ∷ neckOf 127 127 127 (pos 0) (5 ∷ 5 ∷ []) (pos 0) gives 8 ∷ neckOf 127 127 127 (pos 0) (6 ∷ 5 ∷ []) (pos 0) gives 8
+    ∷ neckOf 127 127 127 (pos 0) (5 ∷ 6 ∷ 6 ∷ []) (pos 0) gives 8 ∷ neckOf 127 127 127 (pos 0) (5 ∷ 128 ∷ []) (pos 0) gives 8
     -- the tip: not examined with no fret
-    ∷ neckOf 127 127 127 (negℤ (pos 9)) (5 ∷ []) (pos 1) gives 9 ∷ neckOf 127 127 127 (negℤ (pos 9)) (5 ∷ []) (negℤ (pos 10)) gives 9 ∷ neckOf 127 127 127 (negℤ (pos 9)) (5 ∷ []) (negℤ (pos 9)) gives 0 ∷ neckOf 127 127 127 (negℤ (pos 9)) [] (pos 1) gives 0
+    ∷ neckOf 127 127 127 (negℤ (pos 9)) (5 ∷ []) (pos 1) gives 9 ∷ neckOf 127 127 127 (negℤ (pos 9)) (5 ∷ []) (negℤ (pos 10)) gives 9
+    ∷ neckOf 127 127 127 (negℤ (pos 9)) (5 ∷ []) (negℤ (pos 9)) gives 0 ∷ neckOf 127 127 127 (negℤ (pos 9)) [] (pos 1) gives 0
     ∷ []
 
 -- the bench setup with L = 1: lengths of the three buffers, heights
@@ -112,9 +125,11 @@ startOf a b ψ w w' = firstOf (startRules (benchSetup 1 0 0 0 0) (replicate a (p
 
 startRows : List (Line ℕ)
 startRows =
-    startOf 0 1 1 (pos 0) (pos 0) gives 6 ∷ startOf 1 2 1 (pos 0) (pos 0) gives 6 ∷ startOf 1 1 0 (pos 0) (pos 0) gives 6 ∷ startOf 1 1 1 (pos 0) (pos 0) gives 0
+    startOf 0 1 1 (pos 0) (pos 0) gives 6 ∷ startOf 1 2 1 (pos 0) (pos 0) gives 6 ∷ startOf 1 1 0 (pos 0) (pos 0) gives 6
+    ∷ startOf 1 1 1 (pos 0) (pos 0) gives 0
     ∷ startOf 1 1 1 (negℤ (pos 1)) (pos 0) gives 10 ∷ startOf 1 1 1 (pos 1048576) (pos 1048576) gives 0 ∷ startOf 1 1 1 (pos 1048577) (pos 0) gives 10
-    ∷ startOf 1 1 1 (pos 0) (negℤ (pos 1048576)) gives 0 ∷ startOf 1 1 1 (pos 0) (negℤ (pos 1048577)) gives 10 ∷ startOf 1 1 1 (pos 0) (pos 1048577) gives 10
+    ∷ startOf 1 1 1 (pos 0) (negℤ (pos 1048576)) gives 0 ∷ startOf 1 1 1 (pos 0) (negℤ (pos 1048577)) gives 10
+    ∷ startOf 1 1 1 (pos 0) (pos 1048577) gives 10
     ∷ []
 
 -- a step of the bench setup with L = 1 and these K, neck height and stiffness, voice and forces
@@ -137,23 +152,31 @@ stepRows =
     ∷ stepOf 0 (pos 0) 0 (record { first = pos 0 ∷ []; second = []; contact = pos 0 ∷ []; turn = 0; finger = restingFinger }) (pos 0) (pos 0) gives 6
     ∷ stepOf 0 (pos 0) 0 (record { first = pos 0 ∷ []; second = pos 0 ∷ []; contact = []; turn = 0; finger = restingFinger }) (pos 0) (pos 0) gives 6
     -- neck heights
-    ∷ stepOf 0 (pos 1) 0 (string (pos 0) (pos 0)) (pos 0) (pos 0) gives 7 ∷ stepOf 0 (negℤ (pos 1048577)) 0 (string (pos 0) (pos 0)) (pos 0) (pos 0) gives 7 ∷ stepOf 0 (negℤ (pos 1048576)) 0 (string (pos 0) (pos 0)) (pos 0) (pos 0) gives 0
+    ∷ stepOf 0 (pos 1) 0 (string (pos 0) (pos 0)) (pos 0) (pos 0) gives 7
+    ∷ stepOf 0 (negℤ (pos 1048577)) 0 (string (pos 0) (pos 0)) (pos 0) (pos 0) gives 7
+    ∷ stepOf 0 (negℤ (pos 1048576)) 0 (string (pos 0) (pos 0)) (pos 0) (pos 0) gives 0
     -- displacements, finger heights, contact variables passed in
-    ∷ stepOf 0 (pos 0) 0 (string (pos 1048576) (pos 1048576)) (pos 0) (pos 0) gives 0 ∷ stepOf 0 (pos 0) 0 (string (negℤ (pos 1048576)) (negℤ (pos 1048576))) (pos 0) (pos 0) gives 0
-    ∷ stepOf 0 (pos 0) 0 (string (pos 1048577) (pos 0)) (pos 0) (pos 0) gives 11 ∷ stepOf 0 (pos 0) 0 (string (pos 0) (negℤ (pos 1048577))) (pos 0) (pos 0) gives 11
+    ∷ stepOf 0 (pos 0) 0 (string (pos 1048576) (pos 1048576)) (pos 0) (pos 0) gives 0
+    ∷ stepOf 0 (pos 0) 0 (string (negℤ (pos 1048576)) (negℤ (pos 1048576))) (pos 0) (pos 0) gives 0
+    ∷ stepOf 0 (pos 0) 0 (string (pos 1048577) (pos 0)) (pos 0) (pos 0) gives 11
+    ∷ stepOf 0 (pos 0) 0 (string (pos 0) (negℤ (pos 1048577))) (pos 0) (pos 0) gives 11
     ∷ stepOf 0 (pos 0) 0 (fingerAt (pos 1048576) (pos 1048576) (pos 67108864)) (pos 0) (pos 0) gives 0
-    ∷ stepOf 0 (pos 0) 0 (fingerAt (pos 1048577) (pos 0) (pos 0)) (pos 0) (pos 0) gives 11 ∷ stepOf 0 (pos 0) 0 (fingerAt (pos 0) (negℤ (pos 1048577)) (pos 0)) (pos 0) (pos 0) gives 11
+    ∷ stepOf 0 (pos 0) 0 (fingerAt (pos 1048577) (pos 0) (pos 0)) (pos 0) (pos 0) gives 11
+    ∷ stepOf 0 (pos 0) 0 (fingerAt (pos 0) (negℤ (pos 1048577)) (pos 0)) (pos 0) (pos 0) gives 11
     ∷ stepOf 0 (pos 0) 0 (fingerAt (pos 0) (pos 0) (pos 67108865)) (pos 0) (pos 0) gives 11
     ∷ stepOf 0 (pos 0) 0 (onePoint (pos 0) (pos 0) (negℤ (pos 67108864)) 0 restingFinger) (pos 0) (pos 0) gives 0
     ∷ stepOf 0 (pos 0) 0 (onePoint (pos 0) (pos 0) (negℤ (pos 67108865)) 0 restingFinger) (pos 0) (pos 0) gives 11
     -- forces
     ∷ stepOf 0 (pos 0) 0 (string (pos 0) (pos 0)) (pos 1073741824) (negℤ (pos 1073741824)) gives 0
-    ∷ stepOf 0 (pos 0) 0 (string (pos 0) (pos 0)) (pos 1073741825) (pos 0) gives 12 ∷ stepOf 0 (pos 0) 0 (string (pos 0) (pos 0)) (pos 0) (negℤ (pos 1073741825)) gives 12
+    ∷ stepOf 0 (pos 0) 0 (string (pos 0) (pos 0)) (pos 1073741825) (pos 0) gives 12
+    ∷ stepOf 0 (pos 0) 0 (string (pos 0) (pos 0)) (pos 0) (negℤ (pos 1073741825)) gives 12
     -- a new displacement of string and finger: 1,048,576 and one more; −1,048,576 and one less
-    ∷ stepOf 0 (pos 0) 0 (string (pos 1047576) (pos 1047576)) (pos 6191152) (pos 0) gives 0 ∷ stepOf 0 (pos 0) 0 (string (pos 1047576) (pos 1047576)) (pos 6195248) (pos 0) gives 13
+    ∷ stepOf 0 (pos 0) 0 (string (pos 1047576) (pos 1047576)) (pos 6191152) (pos 0) gives 0
+    ∷ stepOf 0 (pos 0) 0 (string (pos 1047576) (pos 1047576)) (pos 6195248) (pos 0) gives 13
     ∷ stepOf 0 (negℤ (pos 1048576)) 0 (string (negℤ (pos 1047576)) (negℤ (pos 1047576))) (negℤ (pos 6191152)) (pos 0) gives 0
     ∷ stepOf 0 (negℤ (pos 1048576)) 0 (string (negℤ (pos 1047576)) (negℤ (pos 1047576))) (negℤ (pos 6195248)) (pos 0) gives 13
-    ∷ stepOf 0 (pos 0) 0 (fingerAt (pos 1047576) (pos 1047576) (pos 0)) (pos 0) (pos 4096000) gives 0 ∷ stepOf 0 (pos 0) 0 (fingerAt (pos 1047576) (pos 1047576) (pos 0)) (pos 0) (pos 4100096) gives 13
+    ∷ stepOf 0 (pos 0) 0 (fingerAt (pos 1047576) (pos 1047576) (pos 0)) (pos 0) (pos 4096000) gives 0
+    ∷ stepOf 0 (pos 0) 0 (fingerAt (pos 1047576) (pos 1047576) (pos 0)) (pos 0) (pos 4100096) gives 13
     -- a new contact variable of a point and of the finger: 67,108,864 and one more
     ∷ stepOf 0 (pos 0) 64 (onePoint (negℤ (pos 16)) (negℤ (pos 15)) (pos 67108856) 0 restingFinger) (negℤ (pos 1073737728)) (pos 0) gives 0
     ∷ stepOf 0 (pos 0) 64 (onePoint (negℤ (pos 16)) (negℤ (pos 15)) (pos 67108857) 0 restingFinger) (negℤ (pos 1073737728)) (pos 0) gives 14
@@ -167,7 +190,8 @@ blockOf f z h u = firstOf (blockRules (benchSetup 1 0 0 0 0) (record { heights =
 
 blockRows : List (Line ℕ)
 blockRows =
-    blockOf 0 0 (pos 0) (pos 0) gives 0 ∷ blockOf 2 2 (pos 0) (pos 0) gives 0 ∷ blockOf 1 1 (pos 0) (pos 0) gives 15 ∷ blockOf 2 1 (pos 0) (pos 0) gives 15 ∷ blockOf 2 3 (pos 0) (pos 0) gives 15
+    blockOf 0 0 (pos 0) (pos 0) gives 0 ∷ blockOf 2 2 (pos 0) (pos 0) gives 0 ∷ blockOf 1 1 (pos 0) (pos 0) gives 15
+    ∷ blockOf 2 1 (pos 0) (pos 0) gives 15 ∷ blockOf 2 3 (pos 0) (pos 0) gives 15
     ∷ blockOf 1 1 (pos 1) (pos 0) gives 15 ∷ blockOf 0 0 (pos 1) (pos 1048577) gives 7 ∷ blockOf 0 0 (pos 0) (pos 1048577) gives 11
     ∷ []
 
@@ -177,17 +201,23 @@ readingOf h a b turn i = firstOf (readingRules (benchSetup 1 0 0 0 0) (h ∷ [])
 
 readingRows : List (Line ℕ)
 readingRows =
-    readingOf (pos 0) (pos 0) (pos 0) 0 0 gives 4 ∷ readingOf (pos 0) (pos 0) (pos 0) 0 1 gives 0 ∷ readingOf (pos 0) (pos 0) (pos 0) 0 2 gives 4 ∷ readingOf (pos 1) (pos 0) (pos 0) 0 1 gives 7
+    readingOf (pos 0) (pos 0) (pos 0) 0 0 gives 4 ∷ readingOf (pos 0) (pos 0) (pos 0) 0 1 gives 0 ∷ readingOf (pos 0) (pos 0) (pos 0) 0 2 gives 4
+    ∷ readingOf (pos 1) (pos 0) (pos 0) 0 1 gives 7
     -- lengths: heights and both strings
-    ∷ firstOf (readingRules (benchSetup 1 0 0 0 0) [] (pos 0 ∷ []) (pos 0 ∷ []) 0 1) gives 6 ∷ firstOf (readingRules (benchSetup 1 0 0 0 0) (pos 0 ∷ []) [] (pos 0 ∷ []) 1 1) gives 6 ∷ firstOf (readingRules (benchSetup 1 0 0 0 0) (pos 0 ∷ []) (pos 0 ∷ []) [] 0 1) gives 6
+    ∷ firstOf (readingRules (benchSetup 1 0 0 0 0) [] (pos 0 ∷ []) (pos 0 ∷ []) 0 1) gives 6
+    ∷ firstOf (readingRules (benchSetup 1 0 0 0 0) (pos 0 ∷ []) [] (pos 0 ∷ []) 1 1) gives 6
+    ∷ firstOf (readingRules (benchSetup 1 0 0 0 0) (pos 0 ∷ []) (pos 0 ∷ []) [] 0 1) gives 6
     -- the newest string only
-    ∷ readingOf (pos 0) (pos 1048577) (pos 0) 0 1 gives 11 ∷ readingOf (pos 0) (pos 1048577) (pos 0) 1 1 gives 0 ∷ readingOf (pos 0) (pos 0) (pos 1048577) 0 1 gives 0 ∷ readingOf (pos 0) (pos 0) (pos 1048577) 7 1 gives 11
+    ∷ readingOf (pos 0) (pos 1048577) (pos 0) 0 1 gives 11 ∷ readingOf (pos 0) (pos 1048577) (pos 0) 1 1 gives 0
+    ∷ readingOf (pos 0) (pos 0) (pos 1048577) 0 1 gives 0 ∷ readingOf (pos 0) (pos 0) (pos 1048577) 7 1 gives 11
     ∷ []
 
 rows : List (Line ℕ)
 rows = setupRows ++ neckRows ++ startRows ++ stepRows ++ blockRows ++ readingRows
 
 boundaries : Right rows
-unfolding rows setupRows neckRows startRows stepRows blockRows readingRows setupOf neckOf from startOf stepOf string fingerAt blockOf readingOf setupRules neckRules startRules stepRules callRules resultRules blockRules readingRules
-    placeOk lengthOk between inside heightOk displacementOk contactOk forceOk stateOf gradients gradient root greatest moves workedStep nextState A c system rounded₁ rounded₂ nearest floor plus minus times zipWith D1
+unfolding rows setupRows neckRows startRows stepRows blockRows readingRows setupOf neckOf from startOf stepOf string fingerAt blockOf readingOf
+    setupRules neckRules startRules stepRules callRules resultRules blockRules readingRules placeOk lengthOk between inside heightOk displacementOk
+    contactOk forceOk stateOf gradients gradient root greatest moves workedStep nextState A c system rounded₁ rounded₂ nearest floor plus minus times
+    zipWith D1
 boundaries = refl

@@ -116,6 +116,8 @@ lines =
     ∷ []
 
 pub checked-by-hand : Right lines
-unfolding lines inTurn plucks after one minus-one zero-float minus-twelve sixteen stored unforced onNeck onNeck' pressing pressing' setup start startRules fresh stateOf put step stepRules callRules resultRules setupRules placeOk lengthOk between inside heightOk displacementOk contactOk forceOk
-    gradients gradient root greatest moves workedStep nextState A c system rounded₁ rounded₂ nearest floor plus minus times zipWith D1 dot E sum storedEnergy work residuals dotAll roundingWork fraction frame round
+unfolding lines inTurn plucks after one minus-one zero-float minus-twelve sixteen stored unforced onNeck onNeck' pressing pressing' setup start
+    startRules fresh stateOf put step stepRules callRules resultRules setupRules placeOk lengthOk between inside heightOk displacementOk contactOk
+    forceOk gradients gradient root greatest moves workedStep nextState A c system rounded₁ rounded₂ nearest floor plus minus times zipWith D1 dot E
+    sum storedEnergy work residuals dotAll roundingWork fraction frame round
 checked-by-hand = refl

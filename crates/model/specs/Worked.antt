@@ -1,4 +1,5 @@
--- A worked step with M, S and Z above 0, newer and older string apart, contact on the neck and under the finger, contact variables of both signs. The numbers are from an implementation in exact fractions that was written from 01.
+-- A worked step with M, S and Z above 0, newer and older string apart, contact on the neck and under the finger, contact variables of both signs.
+-- The numbers are from an implementation in exact fractions that was written from 01.
 use mathlib.Core.Path.{_≡_, refl}
 use mathlib.Core.List.{List, [], _∷_, _++_, zipWith}
 use lib.IntN.{ℤ, pos, negℤ}
@@ -78,7 +79,8 @@ limits-are = refl
 
 -- loss, work, rounding work, its bound
 sums-are : loss t ∷ work t ∷ roundingWork t ∷ roundingLimit t ∷ [] ≡ pos 3695240 ∷ pos 381432 ∷ negℤ (pos 66030) ∷ pos 4539671 ∷ []
-unfolding t workedStep loss work roundingWork roundingLimit residuals limits dotAll gradients gradient root greatest moves A c system rounded₁ rounded₂ nearest floor minus zipWith D1 dot E sum
+unfolding t workedStep loss work roundingWork roundingLimit residuals limits dotAll gradients gradient root greatest moves A c system rounded₁
+    rounded₂ nearest floor minus zipWith D1 dot E sum
 sums-are = refl
 
 -- stored energy before and after: the second is the first + work − loss + rounding work

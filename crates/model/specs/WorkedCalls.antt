@@ -82,8 +82,9 @@ limits-on-neck-are = refl
 -- a block of four steps, the third with a force out of range
 played-is : block workedSetup workedNeck lent (pos 12345 ∷ negℤ (pos 6789) ∷ negℤ (pos 2500) ∷ pos 4000 ∷ pos 0 ∷ pos 1073741825 ∷ pos 5 ∷ pos 5 ∷ []) (replicate 8 nan)
     ≡ record { count = 2; refusal = 12; lent = lent₂; samples = fin true 11 (negsuc 18) ∷ over true 19 ∷ fin true 11 (negsuc 17) ∷ fin false 3 (negsuc 17) ∷ replicate 4 nan }
-unfolding lent lent₂ over block blockRules play step stepRules callRules resultRules setupRules placeOk lengthOk between inside heightOk displacementOk contactOk forceOk stateOf put workedStep nextState frame fraction round
-    gradients gradient root greatest moves A c system rounded₁ rounded₂ nearest floor plus minus times zipWith D1
+unfolding lent lent₂ over block blockRules play step stepRules callRules resultRules setupRules placeOk lengthOk between inside heightOk
+    displacementOk contactOk forceOk stateOf put workedStep nextState frame fraction round gradients gradient root greatest moves A c system rounded₁
+    rounded₂ nearest floor plus minus times zipWith D1
 played-is = refl
 
 -- a block whose forces end
@@ -94,8 +95,9 @@ ended-is : block workedSetup workedNeck lent (pos 12345 ∷ negℤ (pos 6789) �
       lent = record { first = stateAfter .newer; second = before .newer; contact = stateAfter .contact; turn = 0; finger = stateAfter .finger };
       samples = fin true 11 (negsuc 18) ∷ over true 19 ∷ [];
     }
-unfolding lent lent₂ over block blockRules play step stepRules callRules resultRules setupRules placeOk lengthOk between inside heightOk displacementOk contactOk forceOk stateOf put workedStep nextState frame fraction round
-    gradients gradient root greatest moves A c system rounded₁ rounded₂ nearest floor plus minus times zipWith D1
+unfolding lent lent₂ over block blockRules play step stepRules callRules resultRules setupRules placeOk lengthOk between inside heightOk
+    displacementOk contactOk forceOk stateOf put workedStep nextState frame fraction round gradients gradient root greatest moves A c system rounded₁
+    rounded₂ nearest floor plus minus times zipWith D1
 ended-is = refl
 
 -- blocks turned down with 15, 6 for the contact variables and 11 for the older string: nothing is written
@@ -129,7 +131,8 @@ refusalOf hs u v ψ = firstOf (stepRules workedSetup (record { heights = hs; sti
 last-points-are : let rest = replicate 4 (pos 0) in refusalOf (last (pos 1)) rest rest rest ∷ refusalOf rest (last (pos 1048577)) rest rest ∷ refusalOf rest rest (last (negℤ (pos 1048577))) rest ∷ refusalOf rest rest rest (last (pos 67108865))
     ∷ refusalOf rest (last (pos 1048576)) (last (negℤ (pos 1048576))) rest ∷ refusalOf rest (last (negℤ (pos 17))) (last (pos 1048576)) (last (negℤ (pos 40000000)))
     ∷ refusalOf rest (last (negℤ (pos 17))) (last (negℤ (pos 1048576))) (last (pos 40000000)) ∷ [] ≡ 7 ∷ 11 ∷ 11 ∷ 11 ∷ 13 ∷ 14 ∷ 14 ∷ []
-unfolding last refusalOf stepRules callRules resultRules setupRules placeOk lengthOk between inside heightOk displacementOk contactOk forceOk gradients gradient root greatest moves workedStep nextState A c system rounded₁ rounded₂ nearest floor plus minus times zipWith D1
+unfolding last refusalOf stepRules callRules resultRules setupRules placeOk lengthOk between inside heightOk displacementOk contactOk forceOk
+    gradients gradient root greatest moves workedStep nextState A c system rounded₁ rounded₂ nearest floor plus minus times zipWith D1
 last-points-are = refl
 
 -- ---- a run of the bench voice with L = 100, M = 10, S = 50 and Z = 100 whose second step is refused
@@ -143,8 +146,9 @@ calls = history (flatNeck 0) start-voice (forces (pos 409600) (pos 777) ∷ forc
 -- work, loss, rounding work and its bound, stored energy after it
 run-is : let ts = acceptedSteps (flatNeck 0) calls in sumOver work ts ∷ sumOver loss ts ∷ sumOver roundingWork ts ∷ sumOver roundingLimit ts ∷ energyOf (voiceAfter start-voice calls) ∷ []
     ≡ pos 80281600 ∷ pos 12927900 ∷ negℤ (pos 280680) ∷ pos 1179076 ∷ pos 67073020 ∷ []
-unfolding calls history acceptedSteps voiceAfter sumOver step stepRules callRules resultRules setupRules placeOk lengthOk between inside heightOk displacementOk contactOk forceOk stateOf put workedStep nextState
-    gradients gradient root greatest moves A c system rounded₁ rounded₂ nearest floor plus minus times zipWith D1 dot E sum loss work residuals limits dotAll roundingWork roundingLimit storedEnergy
+unfolding calls history acceptedSteps voiceAfter sumOver step stepRules callRules resultRules setupRules placeOk lengthOk between inside heightOk
+    displacementOk contactOk forceOk stateOf put workedStep nextState gradients gradient root greatest moves A c system rounded₁ rounded₂ nearest
+    floor plus minus times zipWith D1 dot E sum loss work residuals limits dotAll roundingWork roundingLimit storedEnergy
 run-is = refl
 
 -- ---- what the answers come to

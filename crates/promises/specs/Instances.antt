@@ -158,8 +158,9 @@ runs :
     × Run (flatNeck 0) (benchVoice 1 0 0 0 65535 (pos 8)) (none ∷ none ∷ none ∷ [])
     -- lossless and unforced, and a tie: the stored energy rises from 4,194,304 by 4096, which is its bound
     × Run (flatNeck 0) (voice (benchSetup 1 0 0 0 0) (onePoint (negℤ (pos 1024)) (negℤ (pos 1024)) (pos 0) 0 restingFinger)) (none ∷ [])
-unfolding none history voiceAfter acceptedSteps sumOver stateOf put storedEnergy loss work residuals limits roundingWork roundingLimit dotAll step stepRules callRules resultRules setupRules placeOk lengthOk between inside heightOk displacementOk contactOk forceOk
-    workedStep gradients gradient root greatest moves A c system rounded₁ rounded₂ nearest floor nextState frame plus minus times zipWith D1 dot E sum
+unfolding none history voiceAfter acceptedSteps sumOver stateOf put storedEnergy loss work residuals limits roundingWork roundingLimit dotAll step
+    stepRules callRules resultRules setupRules placeOk lengthOk between inside heightOk displacementOk contactOk forceOk workedStep gradients gradient
+    root greatest moves A c system rounded₁ rounded₂ nearest floor nextState frame plus minus times zipWith D1 dot E sum
 runs = (
   record { never-negative = leZ-yes tt; exact = refl; limited = tt; bounded = leZ-yes tt; conserved = λ l u. leZ-yes tt },
   record { never-negative = leZ-yes tt; exact = equal (pos 8192) refl refl; limited = (record { points = (leZ-yes tt, tt); finger = leZ-yes tt }, tt); bounded = leZ-yes tt; conserved = λ l u. forced (u .0 .pluck) tt },
@@ -196,8 +197,9 @@ played : Plays threeNeck (voice three lent) two (replicate 4 nan) record {
   lent = record { first = x .newer; second = y .newer; contact = y .contact; turn = 1; finger = y .finger };
   samples = fin true 11 (negsuc 18) ∷ fin false 11 (negsuc 15) ∷ replicate 2 nan;
 }
-unfolding history voiceAfter acceptedSteps flips frameSamples stateOf put step stepRules callRules resultRules setupRules placeOk lengthOk between inside heightOk displacementOk contactOk forceOk
-    workedStep gradients gradient root greatest moves A c system rounded₁ rounded₂ nearest floor nextState frame fraction round plus minus times zipWith D1
+unfolding history voiceAfter acceptedSteps flips frameSamples stateOf put step stepRules callRules resultRules setupRules placeOk lengthOk between
+    inside heightOk displacementOk contactOk forceOk workedStep gradients gradient root greatest moves A c system rounded₁ rounded₂ nearest floor
+    nextState frame fraction round plus minus times zipWith D1
 played = record { calls = history threeNeck (voice three lent) (forces (pos 5000) (pos 2000000) ∷ []); run = refl; count = refl; turn = refl; lent = refl; samples = refl; stops = (refl, inl refl) }
 
 -- place 1 is pressed to the depth 25, place 2 is free
