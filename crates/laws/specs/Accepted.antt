@@ -1,20 +1,25 @@
--- What an accepted step and an accepted fresh start have passed, and what an accepted step leads to.
+-- What an accepted operation has passed, and what it leads to.
 use mathlib.Core.Path.{_≡_, refl, sym, _∙_, ap}
+use mathlib.Core.Bool.{cond}
 use mathlib.Core.List.{List, [], _∷_, _++_}
-use Prim.Native.Nat.{ℕ, zero, suc, _+_, _*_, _≤_}
+use Prim.Native.Nat.{ℕ, zero, suc, _+_, _*_, _≤_, _<_}
 use lib.Dec.{leb}
 use lib.IntN.{ℤ, pos}
-use lib.ListN.{length, drop, replicate, length-replicate}
+use lib.ListN.{length, drop, getD, replicate, length-replicate}
 use mir.Facts.{and-yes, T-not-not, leb-yes, ltb-no, eqb-yes}
+use Rattle.integers.specs.Filled.{length-tabulate, getD-tabulate}
+use Rattle.integers.specs.Tests.{is-true, is-false}
 use Rattle.model.specs.Ranges.{between}
-use Rattle.model.specs.Refusal.{Rule, accepted, refused}
-use Rattle.model.specs.Setup.{L, M, S, m, p, e, points, placeOk, lengthOk, setupRules}
+use Rattle.model.specs.Refusal.{Rule, Answer, accepted, refused}
+use Rattle.model.specs.Setup.{L, M, S, m, p, e, points, placeOk, lengthOk, setupRules, setup}
+use Rattle.model.specs.Differences.{at}
 use Rattle.model.specs.State.{State, Lent, byTurn, newest, stateOf, put, Neck, Forces}
 use Rattle.model.specs.Step.{workedStep, nextState, buffersRule, callRules, resultRules, stepRules, frame, StepResult, step}
+use Rattle.model.specs.Neck.{Plan, fretAt, neckRules, NeckResult, laid, lay}
 use Rattle.model.specs.Start.{startRules, StartResult, startedResult, start, fresh}
 use Rattle.model.specs.declared.Setup.{Setup}
 use Rattle.model.specs.declared.Frame.{Frame}
-use Rattle.promises.specs.Promises.{Passed}
+use Rattle.promises.specs.Promises.{Passed, LaidAt, Accepts}
 use Rattle.laws.specs.Refusals.{fails, passed-append, all-yes, by-table, never-both, accepted-by}
 use Rattle.laws.specs.Strings.{_spans_}
 
@@ -148,3 +153,20 @@ module _ (s : Setup) (first second contact : List ℤ) (w w' : ℤ) (v : Lent) w
       let (h, r) = accepted-by (λ (r : StartResult). r .answer) rules tt _ _ (λ n. refl) _ (ap (λ r. r .answer) q) in
       let zeros : replicate (points s) (pos 0) spans points s = record { long = length-replicate (points s) (pos 0) } in
       (passed-append (setupRules s) (drop 5 rules) h .0, record { first = rw (sym (ap (λ r. r .first) q) ∙ ap (λ r. r .first) r) zeros; second = rw (sym (ap (λ r. r .second) q) ∙ ap (λ r. r .second) r) zeros })
+
+-- ---- what setup, laying and fresh start accept
+
+laid-at : (s : Setup) (plan : Plan) (k : ℕ) → k < points s → LaidAt plan (suc k) (getD (laid s plan .heights) k (pos 0)) (getD (laid s plan .stiffness) k 0)
+unfolding laid
+laid-at s plan k h = rw (getD-tabulate (points s) (λ k. cond (fretAt plan (suc k)) (plan .tip) (at (plan .board) (suc k))) (pos 0) k h, getD-tabulate (points s) (λ k. cond (fretAt plan (suc k)) (plan .fretStiffness) (plan .boardStiffness)) 0 k h)
+    record { fret = λ t. rw (is-true (fretAt plan (suc k)) t) (refl, refl); board = λ t. rw (is-false (fretAt plan (suc k)) t) (refl, refl) }
+
+pub accepts : Accepts
+unfolding setup lay start setupRules neckRules startRules laid
+accepts = record {
+  setups = λ s a q. let r = accepted-by (λ (r : Answer Setup). r) (setupRules s) tt (accepted s) _ (λ n. refl) a q .1 in cc;
+  necks = λ s plan heights stiffness q.
+      let r = accepted-by (λ (r : NeckResult). r .answer) (neckRules s plan heights stiffness) tt _ _ (λ n. refl) tt q .1 in
+      rw r (length-tabulate (points s) _, length-tabulate (points s) _, laid-at s plan);
+  starts = λ s first second contact w w' a q. accepted-by (λ (r : StartResult). r .answer) (startRules s first second contact w w') tt _ _ (λ n. refl) a q .1;
+}

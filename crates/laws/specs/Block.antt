@@ -12,7 +12,7 @@ use Rattle.model.specs.Setup.{setupRules}
 use Rattle.model.specs.State.{Lent, stateOf, Neck, Forces}
 use Rattle.model.specs.Step.{step}
 use Rattle.model.specs.Run.{voice, call, history, acceptedSteps, voiceAfter}
-use Rattle.model.specs.Block.{pairs, blockRefused, play, blockRules, block}
+use Rattle.model.specs.Block.{pairs, stopped, play, blockRules, block}
 use Rattle.model.specs.declared.Setup.{Setup}
 use Rattle.model.specs.declared.Frame.{Frame}
 use Rattle.promises.specs.Promises.{Passed, IsFirst, flips, frameSamples, Plays, Blocks}
@@ -65,9 +65,9 @@ ready s neck v forces samples h =
 
 -- a block by what its table gave
 by-number : (s : Setup) (neck : Neck) (v : Lent) (forces : List ℤ) (samples : List Float) (n : ℕ) → IsFirst (blockRules s neck v forces samples) n
-    → block s neck v forces samples ≡ unless n (play s neck v (pairs forces) samples) (blockRefused v samples)
+    → block s neck v forces samples ≡ unless n (play s neck v (pairs forces) samples) (stopped v samples)
 unfolding block
-by-number s neck v forces samples n h = ap (λ n. unless n (play s neck v (pairs forces) samples) (blockRefused v samples)) (first-of (blockRules s neck v forces samples) n h)
+by-number s neck v forces samples n h = ap (λ n. unless n (play s neck v (pairs forces) samples) (stopped v samples)) (first-of (blockRules s neck v forces samples) n h)
 
 pub blocks : Blocks
 blocks = record {

@@ -15,7 +15,7 @@ use Rattle.promises.specs.Promises as promise
 use Rattle.promises.specs.Promises.{Demand1, Accepts, Demand2, Runs, Demand3, Blocks, Frames, Readings, Rounding, Refuses, Leaves}
 use Rattle.laws.specs.Refusals.{first-unique, by-table}
 use Rattle.laws.specs.Nearest.{nearest-is, unique}
-use Rattle.laws.specs.Accepts as Accepts
+use Rattle.laws.specs.Accepted as Accepted
 use Rattle.laws.specs.Accepted.{sound, start-accepted}
 use Rattle.laws.specs.Solved as Solved
 use Rattle.laws.specs.Run.{run}
@@ -39,7 +39,7 @@ demand1 = record {
 }
 
 pub accepts : Accepts
-accepts = Accepts.accepts
+accepts = Accepted.accepts
 
 -- an accepted step solves the equations
 pub demand2 : Demand2

@@ -6,7 +6,7 @@ use Prim.Native.Nat.{ℕ, _≤_}
 use native.Mathlib.Omega.{arith}
 use lib.Dec.{T}
 use lib.IntN.{ℤ, pos, negℤ, natAbs, _-ℤ_}
-use lib.Signed.{_<ℤ_, leZ, ltZ, leZ-yes, ltZ-yes, ltZ-no}
+use lib.Signed.{_<ℤ_, leZ, ltZ, leZ-yes, ltZ-yes}
 use lib.Ieee.{Format, binary32, binary64}
 use mir.Facts.{and-yes, T-not-not}
 use Rattle.integers.specs.Solve.{_⊖_, ⊝_, #_}
@@ -22,12 +22,12 @@ use Rattle.model.specs.State.{Lent, newest, stateOf, Neck, Forces}
 use Rattle.model.specs.Step.{callRules, resultRules, stepRules, frame, step}
 use Rattle.model.specs.Fraction.{fraction, Holds}
 use Rattle.model.specs.Reading.{readingRules, reading}
-use Rattle.model.specs.Answers.{readingNumber}
+use Rattle.model.specs.Answers.{readingResult}
 use Rattle.model.specs.declared.Setup.{Setup}
 use Rattle.model.specs.declared.Frame.{Frame}
 use Rattle.model.specs.declared.Reading.{Reading}
 use Rattle.model.specs.declared.Reading.the-variants.{Free, Pressed, Refused}
-use Rattle.promises.specs.Promises.{Passed, IsFirst, Frames, Shows, Readings}
+use Rattle.promises.specs.Promises.{Passed, Refuses, Frames, Shows, shown, Readings}
 use Rattle.laws.specs.Refusals.{fails, at-all, by-table}
 use Rattle.laws.specs.Accepted.{stateMade, step-accepted, accepted-step}
 use Rattle.laws.specs.Sizes.{inside-within}
@@ -84,7 +84,11 @@ module _ (s : Setup) (heights first second : List ℤ) (turn i : ℕ) where
   value : Bool → Reading
   value b = cond b (Pressed (fraction binary64 u) (fraction binary64 d)) (Free (fraction binary64 u))
 
-  shows : Passed rules → (b : Bool) → ltZ (pos 0) d ≡ b → Shows u d (value b)
+  -- what is shown, by the test b on the depth
+  abbrev numbers : Bool → List ℤ
+  numbers b = cond b (u ∷ d ∷ []) (u ∷ [])
+
+  shows : Passed rules → (b : Bool) → ltZ (pos 0) d ≡ b → Refuses rules (readingResult (value b)) × Shows (numbers b) (readingResult (value b))
   unfolding string u d rules value readingRules setupRules heightOk inside
   shows h b q = go b q
     where
@@ -94,20 +98,16 @@ module _ (s : Setup) (heights first second : List ℤ) (turn i : ℕ) where
       height : T (heightOk (at heights i))
       height = at-all heightOk heights tt (T-not-not (all heightOk heights) (fails 7 rules h)) i
 
-      go : (b : Bool) → ltZ (pos 0) d ≡ b → Shows u d (value b)
-      go true q = let l : pos 0 <ℤ d = ltZ-yes (rw q tt) in (l, fraction-holds binary64 u range, fraction-holds binary64 d (depth-≤ (at heights i) u height range l))
-      go false q = (ltZ-no (rw q tt), fraction-holds binary64 u range)
+      held : Holds (fraction binary64 u) u
+      held = fraction-holds binary64 u range
 
-  -- neither case of a reading that is made has a number
-  unnumbered : (b : Bool) → readingNumber (value b) ≡ 0
-  unfolding value
-  unnumbered true = refl
-  unnumbered false = refl
+      go : (b : Bool) → ltZ (pos 0) d ≡ b → Refuses rules (readingResult (value b)) × Shows (numbers b) (readingResult (value b))
+      go true q = (h, (held, (fraction-holds binary64 d (depth-≤ (at heights i) u height range (ltZ-yes (rw q tt))), tt)))
+      go false q = (h, (held, tt))
 
-  holds : IsFirst rules (readingNumber (reading s heights first second turn i)) × Shows u d (reading s heights first second turn i)
+  holds : let answer = readingResult (reading s heights first second turn i) in Refuses rules answer × Shows (shown u d) answer
   unfolding reading string u d rules value readingRules setupRules
-  holds = by-table rules tt (value (ltZ (pos 0) d)) Refused (λ (r : Reading). IsFirst rules (readingNumber r) × Shows u d r)
-      (λ h. (rw (unnumbered (ltZ (pos 0) d)) h, shows h (ltZ (pos 0) d) refl)) (λ n h. (h, omega arith))
+  holds = by-table rules tt (value (ltZ (pos 0) d)) Refused (λ (r : Reading). Refuses rules (readingResult r) × Shows (shown u d) (readingResult r)) (λ h. shows h (ltZ (pos 0) d) refl) (λ n h. ((omega arith, h), tt))
 
 pub readings : Readings
 unfolding string u d rules

@@ -6,7 +6,6 @@ pub mod Nearest
 pub mod System
 pub mod Gradient
 pub mod Accepted
-pub mod Accepts
 pub mod Moves
 pub mod Limits
 pub mod Balance

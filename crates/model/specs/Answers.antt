@@ -6,8 +6,8 @@
 --   step      stepResult turn₀ finger₀ answer first second contact ≡ step s neck v F
 --   block     blockResult answer first second contact samples ≡ block s neck v forces samples₀
 --   newest    answer ≡ newest turn first second, of the references themselves
---   reading   answer ≡ reading s heights first second turn place, an enum that is 01's own: free, pressed, or the number
-use mathlib.Core.List.{List}
+--   reading   answer ≡ reading s heights first second turn place; `readingResult` gives its number and values
+use mathlib.Core.List.{List, [], _∷_}
 use Prim.Native.Nat.{ℕ}
 use lib.IntN.{ℤ}
 use lib.Ieee.{Float}
@@ -62,8 +62,8 @@ blockResult r first second contact samples = record {
   samples = samples;
 }
 
--- the number of a reading's refusal, 0 where it is free or pressed
-abbrev pub readingNumber : Reading → ℕ
-readingNumber (Free u) = 0
-readingNumber (Pressed u depth) = 0
-readingNumber (Refused n) = n
+-- the displacement of a free place; the displacement and the depth of a pressed one
+abbrev pub readingResult : Reading → Answer (List Float)
+readingResult (Free u) = accepted (u ∷ [])
+readingResult (Pressed u depth) = accepted (u ∷ depth ∷ [])
+readingResult (Refused n) = refused n

@@ -26,19 +26,19 @@ pub record BlockResult : Type 0 where
   pub lent : Lent
   pub samples : List Float
 
--- a block that made no step: nothing is written and the count is 0
-abbrev pub blockRefused : Lent → List Float → ℕ → BlockResult
-blockRefused v samples n = record { count = 0; refusal = n; lent = v; samples = samples }
+-- no step more is made, and nothing more is written: the forces ended (n = 0), or the number n was given
+abbrev pub stopped : Lent → List Float → ℕ → BlockResult
+stopped v samples n = record { count = 0; refusal = n; lent = v; samples = samples }
 
 module _ (s : Setup) (neck : Neck) where
   -- steps until the forces end or one is refused; each frame is written in turn, bridge first
   unfoldable pub play : Lent → List Forces → List Float → BlockResult
-  play v [] samples = record { count = 0; refusal = 0; lent = v; samples = samples }
+  play v [] samples = stopped v samples 0
   play v (F ∷ Fs) samples =
       let r = step s neck v F in
       elim (r .answer) [
         | accepted f ↦ (let b = play (r .lent) Fs (drop 2 samples) in record { count = suc (b .count); refusal = b .refusal; lent = b .lent; samples = f .bridge ∷ f .neck ∷ b .samples })
-        | refused n ↦ record { count = 0; refusal = n; lent = r .lent; samples = samples }
+        | refused n ↦ stopped (r .lent) samples n
       ]
 
   module _ (v : Lent) (forces : List ℤ) (samples : List Float) where
@@ -51,4 +51,4 @@ module _ (s : Setup) (neck : Neck) where
         ∷ []
 
     unfoldable pub block : BlockResult
-    block = unless (firstOf blockRules) (play v (pairs forces) samples) (blockRefused v samples)
+    block = unless (firstOf blockRules) (play v (pairs forces) samples) (stopped v samples)

@@ -9,6 +9,7 @@ use Rattle.model.specs.System.{residual₁, residual₂}
 use Rattle.model.specs.Step.{underFinger, A, c, system, WorkedStep}
 use Rattle.model.specs.declared.Setup.{Setup}
 
+-- of string, contact variables and finger
 unfoldable pub storedEnergy : Setup → State → ℤ
 storedEnergy s x =
     let u = x .newer in
@@ -29,12 +30,14 @@ abbrev pub sizes : PointsAndFinger → PointsAndFinger
 sizes a = record { points = map size (a .points); finger = size (a .finger) }
 
 module _ (t : WorkedStep) where
+  -- by plain and by viscous loss
   unfoldable pub loss : ℤ
   loss =
       let s = t .setup in
       let δ = t .moves .points in
       pos 2 *ℤ pos (Z s) *ℤ dot δ δ +ℤ pos (S s) *ℤ E δ δ
 
+  -- of the pluck force at e, and of the finger force
   unfoldable pub work : ℤ
   work = pos 2 *ℤ t .forces .pluck *ℤ at (t .moves .points) (e (t .setup)) +ℤ pos 2 *ℤ t .forces .finger *ℤ t .moves .finger
 
@@ -62,6 +65,7 @@ module _ (t : WorkedStep) where
         finger = pos (m s) +ℤ pos 2 *ℤ g²;
       }
 
+  -- twice Σ of residual × move
   unfoldable pub roundingWork : ℤ
   roundingWork = pos 2 *ℤ dotAll residuals (t .moves)
 

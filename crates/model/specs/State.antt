@@ -31,7 +31,7 @@ newest turn first second = byTurn turn first second
 unfoldable pub stateOf : Lent → State
 stateOf v = record {
   newer = newest (v .turn) (v .first) (v .second);
-  older = newest (v .turn) (v .second) (v .first);
+  older = byTurn (v .turn) (v .second) (v .first);
   contact = v .contact;
   finger = v .finger;
 }

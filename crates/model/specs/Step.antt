@@ -34,11 +34,12 @@ gradients s neck x = record {
 abbrev pub underFinger {ℓ} : {B : Type ℓ} → Setup → ℕ → B → B → B
 underFinger s i a b = cond (eqb i (p s)) a b
 
--- 4096 is a string point's mass
+-- what a move is multiplied by in a point's equation; 4096 is a string point's mass
 unfoldable pub A : Setup → PointsAndFinger → ℕ → ℤ
 A s G i = pos 4096 +ℤ pos (Z s) +ℤ at (G .points) i *ℤ at (G .points) i
 
 module _ (s : Setup) (x : State) (G : PointsAndFinger) (F : Forces) where
+  -- the right side of a point's equation; the pluck force acts at e
   unfoldable pub c : ℕ → ℤ
   c i =
       let u = x .newer in
@@ -71,7 +72,7 @@ module _ (s : Setup) (x : State) (G : PointsAndFinger) (F : Forces) where
 
 -- ---- a step worked out, and the next state
 
--- the setup and the state before the step, the gradients, the forces and the moves: all that its energy is reckoned from
+-- the setup and the state before the step, the gradients, the forces and the moves: loss, work, residuals and limits are functions of these
 pub record WorkedStep : Type 0 where
   pub setup : Setup
   pub before : State

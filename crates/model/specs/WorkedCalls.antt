@@ -24,7 +24,7 @@ use Rattle.model.specs.Fraction.{fraction}
 use Rattle.model.specs.Block.{block, blockRules, play}
 use Rattle.model.specs.Reading.{reading, readingRules}
 use Rattle.model.specs.Run.{Voice, voice, energyOf, Call, history, acceptedSteps, voiceAfter, sumOver}
-use Rattle.model.specs.Answers.{setupResult, neckResult, startResult, stepResult, blockResult}
+use Rattle.model.specs.Answers.{setupResult, neckResult, startResult, stepResult, blockResult, readingResult}
 use Rattle.model.specs.Bench.{benchSetup, flatNeck, finger, restingFinger, onePoint, forces}
 use Rattle.model.specs.declared.Reading.the-variants.{Free, Pressed, Refused}
 use Rattle.model.specs.declared.SetupAnswer.the-variants as SetupAnswer
@@ -162,4 +162,5 @@ answers-are :
     × (stepResult 7 restingFinger (StepAnswer.Accepted record { turn = 0; finger = finger (pos 4) (pos 5) (pos 6); frame = record { bridge = nan; neck = nan } }) (pos 1 ∷ []) (pos 2 ∷ []) (pos 3 ∷ [])
     ≡ record { answer = accepted record { bridge = nan; neck = nan }; lent = onePoint (pos 1) (pos 2) (pos 3) 0 (finger (pos 4) (pos 5) (pos 6)) })
     × (blockResult record { count = 5; refusal = 13; turn = 1; finger = restingFinger } (pos 1 ∷ []) (pos 2 ∷ []) (pos 3 ∷ []) (nan ∷ []) ≡ record { count = 5; refusal = 13; lent = onePoint (pos 1) (pos 2) (pos 3) 1 restingFinger; samples = nan ∷ [] })
-answers-are = (refl, refl, refl, refl, refl, refl, refl, refl)
+    × (readingResult (Free nan) ≡ accepted (nan ∷ [])) × (readingResult (Pressed nan (over false 1)) ≡ accepted (nan ∷ over false 1 ∷ [])) × (readingResult (Refused 7) ≡ refused 7)
+answers-are = (refl, refl, refl, refl, refl, refl, refl, refl, refl, refl, refl)

@@ -13,6 +13,7 @@ use lib.ListN.{replicate}
 use mir.Facts.{eqb-no}
 use Rattle.model.specs.Fraction.{fraction}
 use Rattle.model.specs.Reading.{readingRules, reading}
+use Rattle.model.specs.Answers.{readingResult}
 use Rattle.integers.specs.Sum.{sum}
 use Rattle.model.specs.Ranges.{between, inside, displacementOk, contactOk, forceOk, heightOk}
 use Rattle.model.specs.Refusal.{_when_}
@@ -27,7 +28,7 @@ use Rattle.model.specs.Energy.{storedEnergy, dotAll, loss, work, residuals, lim
 use Rattle.model.specs.Run.{Voice, voice, history, acceptedSteps, voiceAfter, sumOver}
 use Rattle.model.specs.Bench.{benchSetup, flatNeck, finger, restingFinger, onePoint, forces}
 use Rattle.model.specs.declared.Setup.{Setup}
-use Rattle.promises.specs.Promises.{Refuses, IsNearest, IsRounded, AreGradients, Solves, Run, flips, frameSamples, Plays, Shows}
+use Rattle.promises.specs.Promises.{Refuses, IsNearest, IsRounded, AreGradients, Solves, Run, flips, frameSamples, Plays, Shows, shown}
 
 -- ---- rounding
 
@@ -203,10 +204,10 @@ unfolding history voiceAfter acceptedSteps flips frameSamples stateOf put step s
 played = record { calls = history threeNeck (voice three lent) (forces (pos 5000) (pos 2000000) ∷ []); run = refl; count = refl; turn = refl; lent = refl; samples = refl; stops = (refl, inl refl) }
 
 -- place 1 is pressed to the depth 25, place 2 is free
-pressed : Shows (negℤ (pos 25)) (pos 25) (reading three (threeNeck .heights) (lent .first) (lent .second) 0 1)
+pressed : Shows (shown (negℤ (pos 25)) (pos 25)) (readingResult (reading three (threeNeck .heights) (lent .first) (lent .second) 0 1))
 unfolding reading readingRules setupRules placeOk lengthOk between inside heightOk displacementOk fraction round
-pressed = (ltZ-yes tt, (refl, refl), (refl, refl))
+pressed = ((refl, refl), ((refl, refl), tt))
 
-free : Shows (pos 30) (negℤ (pos 80)) (reading three (threeNeck .heights) (lent .first) (lent .second) 0 2)
+free : Shows (shown (pos 30) (negℤ (pos 80))) (readingResult (reading three (threeNeck .heights) (lent .first) (lent .second) 0 2))
 unfolding reading readingRules setupRules placeOk lengthOk between inside heightOk displacementOk fraction round
-free = (leZ-yes tt, (refl, refl))
+free = ((refl, refl), tt)

@@ -1,12 +1,12 @@
 -- What is promised of the model, as statements only, in document 01's terms. Crate `laws` proves each in its file Demands.
 use mathlib.Core.Path.{_≡_}
-use mathlib.Core.Bool.{true, not}
+use mathlib.Core.Bool.{true, not, cond}
 use mathlib.Core.Logic.{_≢_, _⊎_}
 use mathlib.Core.List.{List, [], _∷_, _++_}
 use Prim.Native.Nat.{ℕ, zero, suc, _*_, _/_, min, _≤_, _<_}
 use lib.Dec.{T}
 use lib.IntN.{ℤ, pos, natAbs, _+ℤ_, _-ℤ_, _*ℤ_}
-use lib.Signed.{_≤ℤ_, _<ℤ_}
+use lib.Signed.{_≤ℤ_, _<ℤ_, ltZ}
 use lib.Ieee.{Float}
 use lib.ListN.{length, take, drop, getD}
 use Rattle.integers.specs.Size.{size}
@@ -22,14 +22,12 @@ use Rattle.model.specs.Step.{A, c, system, gradients, WorkedStep, stepRules, st
 use Rattle.model.specs.Energy.{loss, work, residuals, limits, roundingWork, roundingLimit}
 use Rattle.model.specs.Run.{Voice, voice, energyOf, Call, history, acceptedSteps, voiceAfter, sumOver}
 use Rattle.model.specs.Fraction.{Holds}
-use Rattle.model.specs.Block.{pairs, BlockResult, blockRefused, blockRules, block}
+use Rattle.model.specs.Block.{pairs, BlockResult, stopped, blockRules, block}
 use Rattle.model.specs.Reading.{readingRules, reading}
-use Rattle.model.specs.Answers.{readingNumber}
+use Rattle.model.specs.Answers.{readingResult}
 use Rattle.model.specs.declared.Setup.{Setup}
 use Rattle.model.specs.declared.Frame.{Frame}
 use Rattle.model.specs.declared.Started.{Started}
-use Rattle.model.specs.declared.Reading.{Reading}
-use Rattle.model.specs.declared.Reading.the-variants.{Free, Pressed, Refused}
 
 -- ---- demand 1: refusals
 
@@ -240,7 +238,7 @@ pub record Blocks : Type 0 where
       → Plays neck (voice s v) (pairs forces) samples (block s neck v forces samples)
   -- where a number is given, nothing is written and the count is 0
   pub turned-down : (s : Setup) (neck : Neck) (v : Lent) (forces : List ℤ) (samples : List Float) (n : ℕ) → IsFirst (blockRules s neck v forces samples) (suc n)
-      → block s neck v forces samples ≡ blockRefused v samples (suc n)
+      → block s neck v forces samples ≡ stopped v samples (suc n)
 
 -- ---- frames and readings lose nothing
 
@@ -249,13 +247,23 @@ abbrev pub Frames : Type 0
 Frames = (s : Setup) (neck : Neck) (v : Lent) (F : Forces) (f : Frame) → let r = step s neck v F in r .answer ≡ accepted f
     → let u = stateOf (r .lent) .newer in Holds (f .bridge) (at u (s .«bridge_place»)) × Holds (f .neck) (at u (s .«neck_place»))
 
--- what the cases of a reading hold, of the newest displacement u and the depth at the place
-abbrev pub Shows : ℤ → ℤ → Reading → Type 0
-Shows u depth (Free a) = (depth ≤ℤ pos 0) × Holds a u
-Shows u depth (Pressed a b) = (pos 0 <ℤ depth) × Holds a u × Holds b depth
-Shows u depth (Refused n) = 1 ≤ n
+-- as many of both, and each float holds its whole number over 1,048,576
+abbrev pub HoldEach : List Float → List ℤ → Type 0
+HoldEach [] [] = Unit {0}
+HoldEach [] (z ∷ zs) = ⊥
+HoldEach (a ∷ rest) [] = ⊥
+HoldEach (a ∷ rest) (z ∷ zs) = Holds a z × HoldEach rest zs
+
+-- an accepted reading holds these whole numbers
+abbrev pub Shows : List ℤ → Answer (List Float) → Type 0
+Shows zs (accepted values) = HoldEach values zs
+Shows zs (refused n) = Unit {0}
+
+-- of the newest displacement u and the depth at a place: free shows u; pressed, just where the depth is above 0, u and the depth
+abbrev pub shown : ℤ → ℤ → List ℤ
+shown u depth = cond (ltZ (pos 0) depth) (u ∷ depth ∷ []) (u ∷ [])
 
 abbrev pub Readings : Type 0
 Readings = (s : Setup) (heights first second : List ℤ) (turn i : ℕ) → let u = at (newest turn first second) i in
-    let r = reading s heights first second turn i in
-    IsFirst (readingRules s heights first second turn i) (readingNumber r) × Shows u (at heights i -ℤ u) r
+    let answer = readingResult (reading s heights first second turn i) in
+    Refuses (readingRules s heights first second turn i) answer × Shows (shown u (at heights i -ℤ u)) answer
