@@ -17,6 +17,7 @@ use Rattle.model.specs.State.{State, Lent, stateOf, put, Neck, Forces, P
 use Rattle.model.specs.Neck.{heightsRule}
 use Rattle.model.specs.Fraction.{fraction}
 use Rattle.model.specs.declared.Setup.{Setup}
+use Rattle.model.specs.declared.Finger.{Finger}
 use Rattle.model.specs.declared.Frame.{Frame}
 
 -- ---- the gradients, from the newer values
@@ -34,34 +35,43 @@ gradients s neck x = record {
 abbrev pub underFinger {ℓ} : {B : Type ℓ} → Setup → ℕ → B → B → B
 underFinger s i a b = cond (eqb i (p s)) a b
 
--- what a move is multiplied by in a point's equation; 4096 is a string point's mass
+-- A, what a move is multiplied by in a point's equation, where the point's gradient is G; 4096 is a string point's mass
+abbrev pub factor : Setup → ℤ → ℤ
+factor s G = pos 4096 +ℤ pos (Z s) +ℤ G *ℤ G
+
+-- c, the right side of a point's equation, where newer and older string are u and v and the point's gradient, contact variable and pluck force are G, ψ and f
+abbrev pub rightSide : Setup → List ℤ → List ℤ → (G ψ f : ℤ) → ℕ → ℤ
+rightSide s u v G ψ f i =
+    let a = minus u v in
+    pos 8192 *ℤ at a i +ℤ pos (L s) *ℤ at (D1 u) i -ℤ pos (M s) *ℤ at (D2 u) i +ℤ pos (S s) *ℤ at (D1 a) i +ℤ pos 2 *ℤ G *ℤ ψ +ℤ f
+
+-- the finger's two-by-two system, where A and c are those at p, g is the finger's gradient and f the finger force
+abbrev pub fingerSystem : Setup → Finger → (A c g f : ℤ) → System
+fingerSystem s finger A c g f =
+    let φ = finger .contact in
+    let w = finger .newer in
+    let w' = finger .older in
+    record {
+      a₁₁ = A +ℤ g *ℤ g;
+      a₁₂ = negℤ (g *ℤ g);
+      b₁ = c -ℤ pos 2 *ℤ g *ℤ φ;
+      a₂₁ = negℤ (g *ℤ g);
+      a₂₂ = pos (m s) +ℤ g *ℤ g;
+      b₂ = pos 2 *ℤ pos (m s) *ℤ (w -ℤ w') +ℤ f +ℤ pos 2 *ℤ g *ℤ φ;
+    }
+
+-- A of each point
 unfoldable pub A : Setup → PointsAndFinger → ℕ → ℤ
-A s G i = pos 4096 +ℤ pos (Z s) +ℤ at (G .points) i *ℤ at (G .points) i
+A s G i = factor s (at (G .points) i)
 
 module _ (s : Setup) (x : State) (G : PointsAndFinger) (F : Forces) where
-  -- the right side of a point's equation; the pluck force acts at e
+  -- c of each point; the pluck force acts at e
   unfoldable pub c : ℕ → ℤ
-  c i =
-      let u = x .newer in
-      let a = minus u (x .older) in
-      pos 8192 *ℤ at a i +ℤ pos (L s) *ℤ at (D1 u) i -ℤ pos (M s) *ℤ at (D2 u) i +ℤ pos (S s) *ℤ at (D1 a) i
-      +ℤ pos 2 *ℤ at (G .points) i *ℤ at (x .contact) i +ℤ cond (eqb i (e s)) (F .pluck) (pos 0)
+  c i = rightSide s (x .newer) (x .older) (at (G .points) i) (at (x .contact) i) (cond (eqb i (e s)) (F .pluck) (pos 0)) i
 
-  -- the finger's two-by-two system, for δ at p and δw
+  -- for δ at p and δw
   unfoldable pub system : System
-  system =
-      let g = G .finger in
-      let φ = x .finger .contact in
-      let w = x .finger .newer in
-      let w' = x .finger .older in
-      record {
-        a₁₁ = A s G (p s) +ℤ g *ℤ g;
-        a₁₂ = negℤ (g *ℤ g);
-        b₁ = c (p s) -ℤ pos 2 *ℤ g *ℤ φ;
-        a₂₁ = negℤ (g *ℤ g);
-        a₂₂ = pos (m s) +ℤ g *ℤ g;
-        b₂ = pos 2 *ℤ pos (m s) *ℤ (w -ℤ w') +ℤ F .finger +ℤ pos 2 *ℤ g *ℤ φ;
-      }
+  system = fingerSystem s (x .finger) (A s G (p s)) (c (p s)) (G .finger) (F .finger)
 
   -- δ at each point, and δw
   unfoldable pub moves : PointsAndFinger
