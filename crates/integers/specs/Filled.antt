@@ -4,7 +4,8 @@ use mathlib.Core.List.{List, [], _∷_}
 use Prim.Native.Nat.{ℕ, zero, suc, _+_, _≤_, _<_}
 use native.Mathlib.Nat.{le-of-suc-le-suc, not-suc-le-zero, le-refl, le-of-eq}
 use native.Mathlib.Omega.{arith}
-use lib.ListN.{length, getD, set, take, length-set}
+use native.Mathlib.Decide.{decLt}
+use lib.ListN.{length, getD, set, take, replicate, length-set, length-replicate}
 use lib.Seq.{ext-getD, getD-set-same, getD-set-other, getD-take, take-all, length-take-le}
 use borrow.Author.Count.{below-none, below-more}
 
@@ -51,3 +52,35 @@ module _ {A : Type 0} {d : A} {n : ℕ} {f : ℕ → A} where
   -- and all of them
   pub filled-all : {i : ℕ} {l : List A} → n ≤ i → Filled d n f i l → l ≡ tabulate n f
   filled-all {i} {l} h F = sym (take-all n l (le-of-eq (F .len))) ∙ filled-first h (le-refl n) F
+
+-- ---- an array that holds d everywhere before the loop, so that what is not done yet still does
+
+pub record Begun {A : Type 0} (d : A) (n : ℕ) (f : ℕ → A) (i : ℕ) (l : List A) : Type 0 where
+  pub filled : Filled d n f i l
+  pub rest : (k : ℕ) → i ≤ k → getD l k d ≡ d
+
+getD-replicate : {A : Type 0} (n : ℕ) (d : A) (k : ℕ) → getD (replicate n d) k d ≡ d
+getD-replicate zero d k = refl
+getD-replicate (suc n) d zero = refl
+getD-replicate (suc n) d (suc k) = getD-replicate n d k
+
+module _ {A : Type 0} {d : A} {n : ℕ} {f : ℕ → A} where
+  pub begun-none : Begun d n f 0 (replicate n d)
+  begun-none = record { filled = filled-none (length-replicate n d); rest = λ k h. getD-replicate n d k }
+
+  -- an element that is d already
+  pub begun-same : {i : ℕ} {l : List A} → f i ≡ d → Begun d n f i l → Begun d n f (i + 1) l
+  begun-same {i} {l} e B = record {
+    filled = record { len = B .filled .len; each = below-more (λ k. getD l k d ≡ f k) i (B .filled .each) (B .rest i (le-refl i) ∙ sym e) };
+    rest = λ k h. B .rest k (omega arith);
+  }
+
+  pub begun-more : {i : ℕ} {l : List A} {v : A} → i < n → Begun d n f i l → v ≡ f i → Begun d n f (i + 1) (set l i v)
+  begun-more {i} {l} {v} h B e = record { filled = filled-more h (B .filled) e; rest = λ k g. getD-set-other l i k v d (omega arith) ∙ B .rest k (omega arith) }
+
+  pub begun-all : {i : ℕ} {l : List A} → ((k : ℕ) → i ≤ k → f k ≡ d) → Begun d n f i l → l ≡ tabulate n f
+  begun-all {i} {l} past B = ext-getD d l (tabulate n f) (B .filled .len ∙ sym (length-tabulate n f)) (λ k h. go k h (decLt k i) ∙ sym (getD-tabulate n f d k (omega (arith, B .filled .len))))
+    where
+      go : (k : ℕ) → k < length l → Dec (k < i) → getD l k d ≡ f k
+      go k h (yes p) = B .filled .each k p
+      go k h (no p) = let q : i ≤ k = omega arith in B .rest k q ∙ sym (past k q)

@@ -3,6 +3,7 @@ pub mod Ring
 pub mod Solve
 pub mod Order
 pub mod Derive
+pub mod Division
 pub mod Size
 pub mod Tests
 pub mod Bits

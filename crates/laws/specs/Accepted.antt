@@ -1,17 +1,18 @@
 -- What an accepted operation has passed, and what it leads to.
 use mathlib.Core.Path.{_≡_, refl, sym, _∙_, ap}
-use mathlib.Core.Bool.{cond}
+use mathlib.Core.Bool.{not, cond}
 use mathlib.Core.List.{List, [], _∷_, _++_}
 use Prim.Native.Nat.{ℕ, zero, suc, _+_, _*_, _≤_, _<_}
-use lib.Dec.{leb}
+use native.Mathlib.Omega.{arith}
+use lib.Dec.{T, leb, ltb, eqb}
 use lib.IntN.{ℤ, pos}
 use lib.ListN.{length, drop, getD, replicate, length-replicate}
-use mir.Facts.{and-yes, T-not-not, leb-yes, ltb-no, eqb-yes}
+use mir.Facts.{and-yes, or-no, T-not-not, leb-yes, ltb-no, eqb-yes}
 use Rattle.integers.specs.Filled.{length-tabulate, getD-tabulate}
 use Rattle.integers.specs.Tests.{is-true, is-false}
-use Rattle.model.specs.Ranges.{between}
+use Rattle.model.specs.Ranges.{any, between}
 use Rattle.model.specs.Refusal.{Rule, Answer, accepted, refused}
-use Rattle.model.specs.Setup.{L, M, S, m, p, e, points, placeOk, lengthOk, setupRules, setup}
+use Rattle.model.specs.Setup.{N, L, M, S, Z, m, p, e, points, placeOk, lengthOk, setupRules, setup}
 use Rattle.model.specs.Differences.{at}
 use Rattle.model.specs.State.{State, Lent, byTurn, newest, stateOf, put, Neck, Forces}
 use Rattle.model.specs.Step.{workedStep, nextState, buffersRule, callRules, resultRules, stepRules, frame, StepResult, step}
@@ -19,26 +20,52 @@ use Rattle.model.specs.Neck.{Plan, fretAt, neckRules, NeckResult, laid, lay}
 use Rattle.model.specs.Start.{startRules, StartResult, startedResult, start, fresh}
 use Rattle.model.specs.declared.Setup.{Setup}
 use Rattle.model.specs.declared.Frame.{Frame}
-use Rattle.promises.specs.Promises.{Passed, LaidAt, Accepts}
+use Rattle.promises.specs.Promises.{Passed, LaidAt, Accepts, Every}
 use Rattle.laws.specs.Refusals.{fails, passed-append, all-yes, by-table, never-both, accepted-by}
 use Rattle.laws.specs.Strings.{_spans_}
 
 -- ---- a setup
 
 pub record SetupFacts (s : Setup) : Type 0 where
+  pub segments-low : 2 ≤ N s
+  pub segments : N s ≤ 128
   pub stable : L s + 4 * M s + 2 * S s ≤ 4096
+  pub tension : L s ≤ 4096
+  pub stiffness : M s ≤ 1024
+  pub viscous : S s ≤ 2048
+  pub plain : Z s ≤ 4096
   pub mass-low : 1 ≤ m s
+  pub mass : m s ≤ 1048576
   pub first : 1 ≤ p s
   pub last : p s ≤ points s
+
+none-above : (ns : List ℕ) → T (not (any (ltb 4096) ns)) → Every (λ n. n ≤ 4096) ns
+none-above [] t = tt
+none-above (n ∷ ns) t = let k = or-no (ltb 4096 n) (any (ltb 4096) ns) t in (ltb-no (k .0), none-above ns (k .1))
 
 pub sound : (s : Setup) (rules : List Rule) → Passed (setupRules s ++ rules) → SetupFacts s
 unfolding setupRules placeOk between
 sound s rules h =
     let table = setupRules s ++ rules in
+    let segments = and-yes (leb 2 (N s)) (leb (N s) 128) (T-not-not (between 2 (N s) 128) (fails 1 table h)) in
+    let large = none-above (L s ∷ M s ∷ S s ∷ Z s ∷ []) (or-no (eqb (L s) 0) (any (ltb 4096) (L s ∷ M s ∷ S s ∷ Z s ∷ [])) (fails 2 table h) .1) in
+    let stable : L s + 4 * M s + 2 * S s ≤ 4096 = ltb-no (fails 3 table h) in
     let places = all-yes (placeOk s) (p s ∷ e s ∷ s .«bridge_place» ∷ s .«neck_place» ∷ []) (fails 4 table h) in
     let place = and-yes (leb 1 (p s)) (leb (p s) (points s)) (places .0) in
     let mass = and-yes (leb 1 (m s)) (leb (m s) 1048576) (T-not-not (between 1 (m s) 1048576) (fails 5 table h)) in
-    record { stable = ltb-no (fails 3 table h); mass-low = leb-yes (mass .0); first = leb-yes (place .0); last = leb-yes (place .1) }
+    record {
+      segments-low = leb-yes (segments .0);
+      segments = leb-yes (segments .1);
+      stable = stable;
+      tension = omega arith;
+      stiffness = omega arith;
+      viscous = omega arith;
+      plain = large .1 .1 .1 .0;
+      mass-low = leb-yes (mass .0);
+      mass = leb-yes (mass .1);
+      first = leb-yes (place .0);
+      last = leb-yes (place .1);
+    }
 
 -- ---- a setup with buffers of its length, as rules 1 to 6 leave it
 

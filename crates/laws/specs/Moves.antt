@@ -20,8 +20,9 @@ use Rattle.model.specs.Differences.{at}
 use Rattle.model.specs.Rounding.{nearest}
 use Rattle.model.specs.System.{det, rounded₁}
 use Rattle.model.specs.State.{State, Forces, PointsAndFinger}
-use Rattle.model.specs.Step.{A, c, system, moves}
+use Rattle.model.specs.Step.{A, c, fingerSystem, system, moves}
 use Rattle.model.specs.declared.Setup.{Setup}
+use Rattle.model.specs.declared.Finger.{Finger}
 use Rattle.promises.specs.Promises.{IsNearest, IsRounded}
 use Rattle.laws.specs.Strings.{_spans_, at-places}
 use Rattle.laws.specs.Nearest.{nearest-is, unique}
@@ -38,10 +39,13 @@ unfolding A
 A-positive s G i = deduce 2 (λ Z G. times 1 (# 0 ≼ Z) ∷ square 1 G ∷ [] ⊢ # 0 ≺ # 4096 ⊕ Z ⊕ G ⊗ G) tt (pos (Z s)) (at (G .points) i) (nonneg (Z s))
 
 -- the determinant is A·m + g²·(A + m)
+pub regular-system : (s : Setup) (finger : Finger) {A : ℤ} (c g f : ℤ) → pos 0 <ℤ A → 1 ≤ m s → pos 0 <ℤ det (fingerSystem s finger A c g f)
+regular-system s finger {A} c g f a h = deduce 3 (λ A m g. times 1 (# 0 ≺ A ⊗ m) ∷ times 1 (# 0 ≼ g ⊗ g ⊗ (A ⊕ m)) ∷ [] ⊢ # 0 ≺ (A ⊕ g ⊗ g) ⊗ (m ⊕ g ⊗ g) ⊖ ⊝ (g ⊗ g) ⊗ ⊝ (g ⊗ g)) tt A (pos (m s)) g
+    (times-positive a (suc-< (pos-≤ h))) (times-nonneg (square-nonneg g) (sum-nonneg (<-≤ a) (nonneg (m s))))
+
 pub det-positive : (s : Setup) (x : State) (G : PointsAndFinger) (F : Forces) → 1 ≤ m s → pos 0 <ℤ det (system s x G F)
 unfolding system
-det-positive s x G F h = deduce 3 (λ A m g. times 1 (# 0 ≺ A ⊗ m) ∷ times 1 (# 0 ≼ g ⊗ g ⊗ (A ⊕ m)) ∷ [] ⊢ # 0 ≺ (A ⊕ g ⊗ g) ⊗ (m ⊕ g ⊗ g) ⊖ ⊝ (g ⊗ g) ⊗ ⊝ (g ⊗ g)) tt (A s G (p s)) (pos (m s)) (G .finger)
-    (times-positive (A-positive s G (p s)) (suc-< (pos-≤ h))) (times-nonneg (square-nonneg (G .finger)) (sum-nonneg (<-≤ (A-positive s G (p s))) (nonneg (m s))))
+det-positive s x G F h = regular-system s (x .finger) (c s x G F (p s)) (G .finger) (F .finger) (A-positive s G (p s)) h
 
 module _ (s : Setup) (x : State) (G : PointsAndFinger) (F : Forces) (ok : SetupFacts s) where
   regular : pos 0 <ℤ det (system s x G F)

@@ -1,19 +1,18 @@
 -- How large the numbers of a step's equations can be where its refusals 1 to 12 are passed: all of them fit signed 64 bits.
 use mathlib.Core.Path.{_≡_, refl, sym, _∙_}
-use mathlib.Core.Bool.{Bool, true, false, not, cond}
+use mathlib.Core.Bool.{Bool, true, false, cond}
 use mathlib.Core.List.{List, [], _∷_, zipWith}
 use Prim.Native.Nat.{ℕ, zero, suc, _+_, _*_, _^_, _≤_, zero-le}
-use native.Mathlib.Omega.{arith}
-use lib.Dec.{T, leb, eqb, ltb, ltb→lt, nltb→le}
+use lib.Dec.{T, eqb, ltb, ltb→lt, nltb→le}
 use lib.IntN.{ℤ, pos, negℤ, _+ℤ_, _-ℤ_, _*ℤ_}
 use lib.Signed.{leZ, leZ-yes}
 use lib.ListN.{length, List·getD-eq-default}
-use mir.Facts.{and-yes, or-no, T-not-not, leb-yes, ltb-no, eqb-yes}
+use mir.Facts.{and-yes, eqb-yes}
 use Rattle.integers.specs.Filled.{length-tabulate, getD-tabulate}
 use Rattle.integers.specs.Order.{natAbs-between}
 use Rattle.integers.specs.Sum.{bend}
 use Rattle.integers.specs.Size.{_within_, _⟨+⟩_, _⟨-⟩_, _⟨*⟩_, num, natural, neg, weaken, wide, size}
-use Rattle.model.specs.Ranges.{all, any, inside, between, displacementOk, contactOk, forceOk}
+use Rattle.model.specs.Ranges.{all, inside, between, displacementOk, contactOk, forceOk}
 use Rattle.model.specs.Setup.{L, M, S, Z, K, m, p, e, points, lengthOk, setupRules}
 use Rattle.model.specs.Differences.{at, minus, D1}
 use Rattle.model.specs.Gradient.{gradient}
@@ -21,9 +20,10 @@ use Rattle.model.specs.System.{det, det₁, det₂}
 use Rattle.model.specs.State.{State, Neck, Forces, PointsAndFinger}
 use Rattle.model.specs.Step.{gradients, A, c, system, callRules}
 use Rattle.model.specs.declared.Setup.{Setup}
-use Rattle.promises.specs.Promises.{Passed, Every}
+use Rattle.promises.specs.Promises.{Passed}
 use Rattle.laws.specs.Refusals.{fails, all-yes}
 use Rattle.laws.specs.InRange.{in-range}
+use Rattle.laws.specs.Accepted.{SetupFacts, sound}
 use Rattle.laws.specs.Strings.{at-minus}
 use Rattle.laws.specs.Gradient.{gradient-size}
 
@@ -113,7 +113,7 @@ pub inside-within : (n : ℕ) (x : ℤ) → T (inside (negℤ (pos n)) x (pos n)
 unfolding inside
 inside-within n x t = let k = and-yes (leZ (negℤ (pos n)) x) (leZ x (pos n)) t in record { size = natAbs-between (leZ-yes (k .0)) (leZ-yes (k .1)) }
 
-bounded : (n : ℕ) (u : List ℤ) → T (all (λ x. inside (negℤ (pos n)) x (pos n)) u) → Bounded u n
+pub bounded : (n : ℕ) (u : List ℤ) → T (all (λ x. inside (negℤ (pos n)) x (pos n)) u) → Bounded u n
 bounded n u t zero = weaken (num 0) zero-le
 bounded n [] t (suc k) = weaken (num 0) zero-le
 bounded n (x ∷ u) t (suc zero) = inside-within n x (and-yes (inside (negℤ (pos n)) x (pos n)) (all (λ x. inside (negℤ (pos n)) x (pos n)) u) t .0)
@@ -127,27 +127,25 @@ zip-bounded (k ∷ ks) [] (suc i) = natural zero-le
 zip-bounded (k ∷ ks) (d ∷ ds) (suc zero) = gradient-size k d
 zip-bounded (k ∷ ks) (d ∷ ds) (suc (suc i)) = zip-bounded ks ds (suc i)
 
-none-above : (ns : List ℕ) → T (not (any (ltb 4096) ns)) → Every (λ n. n ≤ 4096) ns
-none-above [] t = tt
-none-above (n ∷ ns) t = let k = or-no (ltb 4096 n) (any (ltb 4096) ns) t in (ltb-no (k .0), none-above ns (k .1))
+setup-facts : (s : Setup) (neck : Neck) (x : State) (F : Forces) → Passed (callRules s neck x F) → SetupFacts s
+unfolding callRules
+setup-facts s neck x F h = sound s _ h
 
 pub small : (s : Setup) (neck : Neck) (x : State) (F : Forces) → Passed (callRules s neck x F) → StepRanges s x (gradients s neck x) F
 unfolding callRules setupRules gradients lengthOk displacementOk contactOk forceOk between
 small s neck x F h =
     let rules = callRules s neck x F in
-    let sum : L s + 4 * M s + 2 * S s ≤ 4096 = ltb-no (fails 3 rules h) in
-    let large = none-above (L s ∷ M s ∷ S s ∷ Z s ∷ []) (or-no (eqb (L s) 0) (any (ltb 4096) (L s ∷ M s ∷ S s ∷ Z s ∷ [])) (fails 2 rules h) .1) in
-    let mass = and-yes (leb 1 (m s)) (leb (m s) 1048576) (T-not-not (between 1 (m s) 1048576) (fails 5 rules h)) in
+    let facts = setup-facts s neck x F h in
     let sizes = all-yes (lengthOk s) (length (neck .heights) ∷ length (neck .stiffness) ∷ length (x .newer) ∷ length (x .older) ∷ length (x .contact) ∷ []) (fails 6 rules h) in
     let range = in-range x (fails 11 rules h, tt) in
     let forces = all-yes forceOk (F .pluck ∷ F .finger ∷ []) (fails 12 rules h) in
     record {
-      tension = omega arith;
-      stiffness = omega arith;
-      viscous = omega arith;
-      plain = large .1 .1 .1 .0;
-      mass = leb-yes (mass .1);
-      mass-low = leb-yes (mass .0);
+      tension = facts .tension;
+      stiffness = facts .stiffness;
+      viscous = facts .viscous;
+      plain = facts .plain;
+      mass = facts .mass;
+      mass-low = facts .mass-low;
       newer = bounded 1048576 (x .newer) (range .newer);
       older = bounded 1048576 (x .older) (range .older);
       contact = bounded 67108864 (x .contact) (range .contact);

@@ -1,0 +1,2 @@
+-- What the proof of `root_table` uses.
+mod Table

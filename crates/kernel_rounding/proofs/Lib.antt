@@ -1,0 +1,2 @@
+-- Lemmas on rounding.
+mod ByQuotient

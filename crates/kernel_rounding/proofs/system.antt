@@ -1,0 +1,2 @@
+-- Lemmas on two-by-two systems.
+pub mod Same

@@ -1,0 +1,45 @@
+-- A two-by-two system held in arrays, and the sizes that the system of a step has.
+use mathlib.Core.List.{List, [], _∷_}
+use Prim.Native.Nat.{_^_}
+use lib.Dec.{T}
+use lib.IntN.{ℤ, pos}
+use lib.ListN.{getD}
+use lib.Signed.{_<ℤ_}
+use Rattle.integers.specs.Size.{_within_}
+use Rattle.model.specs.Ranges.{displacementOk, contactOk}
+use Rattle.model.specs.System.{System, det, rounded₁, rounded₂}
+use Rattle.model.specs.declared.Finger.{Finger}
+
+-- by rows and right side
+abbrev pub systemOf : List (List ℤ) → List ℤ → System
+systemOf matrix right =
+    let row = getD matrix 0 [] in
+    let next = getD matrix 1 [] in
+    record {
+      a₁₁ = getD row 0 (pos 0);
+      a₁₂ = getD row 1 (pos 0);
+      a₂₁ = getD next 0 (pos 0);
+      a₂₂ = getD next 1 (pos 0);
+      b₁ = getD right 0 (pos 0);
+      b₂ = getD right 1 (pos 0);
+    }
+
+-- both solutions, each rounded
+abbrev pub rounded : System → List ℤ
+rounded t = rounded₁ t ∷ rounded₂ t ∷ []
+
+-- one solution, and numbers no larger than 01's ranges make them: A + g², g², m + g², and the right sides
+pub record Solvable (t : System) : Type 0 where
+  pub regular : pos 0 <ℤ det t
+  pub a₁₁ : t .a₁₁ within 138242
+  pub a₁₂ : t .a₁₂ within 65025
+  pub a₂₁ : t .a₂₁ within 65025
+  pub a₂₂ : t .a₂₂ within 1113601
+  pub b₁ : t .b₁ within 2 ^ 38
+  pub b₂ : t .b₂ within 2 ^ 43
+
+-- a finger that passes 11
+pub record FingerRanges (finger : Finger) : Type 0 where
+  pub newer : T (displacementOk (finger .newer))
+  pub older : T (displacementOk (finger .older))
+  pub contact : T (contactOk (finger .contact))

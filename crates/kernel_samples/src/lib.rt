@@ -1,0 +1,34 @@
+// 01, 'Playing a block, reading a place': whole numbers divided by 1,048,576 as floats, with nothing lost, and the pickup frame of two of them.
+ghost use mathlib.Core.Path.{_≡_};
+ghost use lib.Dec.{T};
+ghost use lib.Ieee.{binary32, binary64};
+ghost use Rattle.model.specs.Ranges.{displacementOk};
+ghost use Rattle.model.specs.Fraction.{fraction, Holds};
+use model::Frame;
+
+// x / 1,048,576 in single precision.
+pub fn single(x: i32) -> f32
+    requires { ⌜ T (displacementOk x) ⌝ }
+    ensures { λ r. ⌜ (r ≡ fraction binary32 x) × Holds r x ⌝ }
+{
+    (x as f32) / 1048576.0f32
+}
+
+// x / 1,048,576 in double precision.
+pub fn double(x: i32) -> f64
+    requires { ⌜ T (displacementOk x) ⌝ }
+    ensures { λ r. ⌜ (r ≡ fraction binary64 x) × Holds r x ⌝ }
+{
+    (x as f64) / 1048576.0
+}
+
+// A pickup frame of the new displacements at bridge and neck.
+pub fn frame(bridge: i32, neck: i32) -> Frame
+    requires { ⌜ T (displacementOk bridge) × T (displacementOk neck) ⌝ }
+    ensures { λ r. ⌜ r ≡ record { bridge = fraction binary32 bridge; neck = fraction binary32 neck } ⌝ }
+{
+    Frame {
+        bridge: single(bridge),
+        neck: single(neck),
+    }
+}

@@ -1,0 +1,2 @@
+-- Lemmas of several functions' proofs.
+pub mod InRange

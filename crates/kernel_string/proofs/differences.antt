@@ -1,0 +1,2 @@
+-- Lemmas on the weighted string.
+pub mod Linear
