@@ -17,7 +17,7 @@ use Rattle.model.specs.declared.Setup.{Setup}
 use Rattle.promises.specs.Promises.{Passed}
 use Rattle.laws.specs.Accepted.{SetupFacts, sound}
 use Rattle.laws.specs.Refusals.{at-all}
-use Rattle.laws.specs.Sizes.{inside-within, bounded}
+use Rattle.laws.specs.Sizes.{bounded}
 use Rattle.laws.specs.Strings.{_spans_}
 use Rattle.kernel_string.specs.Weighted.{StringRanges}
 

@@ -4,19 +4,18 @@ use mathlib.Core.Bool.{Bool, true, false, cond}
 use mathlib.Core.List.{List, [], _∷_, zipWith}
 use Prim.Native.Nat.{ℕ, zero, suc, _+_, _*_, _^_, _≤_, zero-le}
 use lib.Dec.{T, eqb, ltb, ltb→lt, nltb→le}
-use lib.IntN.{ℤ, pos, negℤ, _+ℤ_, _-ℤ_, _*ℤ_}
+use lib.IntN.{ℤ, pos, negℤ, _-ℤ_}
 use lib.Signed.{leZ, leZ-yes}
 use lib.ListN.{length, List·getD-eq-default}
 use mir.Facts.{and-yes, eqb-yes}
 use Rattle.integers.specs.Filled.{length-tabulate, getD-tabulate}
 use Rattle.integers.specs.Order.{natAbs-between}
 use Rattle.integers.specs.Sum.{bend}
-use Rattle.integers.specs.Size.{_within_, _⟨+⟩_, _⟨-⟩_, _⟨*⟩_, num, natural, neg, weaken, wide, size}
+use Rattle.integers.specs.Size.{_within_, _⟨+⟩_, _⟨-⟩_, _⟨*⟩_, num, natural, weaken, wide, size}
 use Rattle.model.specs.Ranges.{all, inside, between, displacementOk, contactOk, forceOk}
 use Rattle.model.specs.Setup.{L, M, S, Z, K, m, p, e, points, lengthOk, setupRules}
 use Rattle.model.specs.Differences.{at, minus, D1}
 use Rattle.model.specs.Gradient.{gradient}
-use Rattle.model.specs.System.{det, det₁, det₂}
 use Rattle.model.specs.State.{State, Neck, Forces, PointsAndFinger}
 use Rattle.model.specs.Step.{gradients, A, c, system, callRules}
 use Rattle.model.specs.declared.Setup.{Setup}
@@ -88,24 +87,6 @@ module _ {s : Setup} {x : State} {G : PointsAndFinger} {F : Forces} (b : StepRan
   pub b₂-size : system s x G F .b₂ within 2 ^ 43
   unfolding system
   b₂-size = wide (num 2 ⟨*⟩ natural (b .mass) ⟨*⟩ (b .heights .0 ⟨-⟩ b .heights .1) ⟨+⟩ b .forces .1 ⟨+⟩ num 2 ⟨*⟩ b .gradient ⟨*⟩ b .finger) tt
-
-  pub det-size : det (system s x G F) within 2 ^ 38
-  unfolding system
-  det-size =
-      let q = b .gradient ⟨*⟩ b .gradient in
-      wide ((A-size (p s) ⟨+⟩ q) ⟨*⟩ (natural (b .mass) ⟨+⟩ q) ⟨-⟩ neg q ⟨*⟩ neg q) tt
-
-  pub det₁-size : (pos 2 *ℤ det₁ (system s x G F) +ℤ det (system s x G F)) within 2 ^ 61
-  unfolding system
-  det₁-size =
-      let q = b .gradient ⟨*⟩ b .gradient in
-      wide (num 2 ⟨*⟩ (b₁-size ⟨*⟩ (natural (b .mass) ⟨+⟩ q) ⟨-⟩ neg q ⟨*⟩ b₂-size) ⟨+⟩ det-size) tt
-
-  pub det₂-size : (pos 2 *ℤ det₂ (system s x G F) +ℤ det (system s x G F)) within 2 ^ 62
-  unfolding system
-  det₂-size =
-      let q = b .gradient ⟨*⟩ b .gradient in
-      wide (num 2 ⟨*⟩ ((A-size (p s) ⟨+⟩ q) ⟨*⟩ b₂-size ⟨-⟩ b₁-size ⟨*⟩ neg q) ⟨+⟩ det-size) tt
 
 -- ---- the ranges hold where the refusals 1 to 12 are passed
 

@@ -2,7 +2,6 @@
 use mathlib.Core.Path.{_∙_}
 use mathlib.Core.List.{[], _∷_}
 use Prim.Native.Nat.{_^_}
-use lib.IntN.{pos}
 use mir.Syntax.{w64}
 use Rattle.integers.specs.Machine.{Code, var, ♯_, _⊞_, _⊟_, _⊠_, _⊘_, _⊜_, Within, ∅, _▹_, fits, result, divisor, if-lt, else-lt}
 use Rattle.kernel_rounding.proofs.ByQuotient.{unit-positive, quotient-nearest, less-nearest}
@@ -24,9 +23,6 @@ module _ (c : lts.Start reads.Pre reads.Post) where
   ρ : Within (c .args .num ∷ c .args .den ∷ []) (2 ^ 61 ∷ 2 ^ 38 ∷ [])
   ρ = c .pre .1 ▹ c .pre .2 ▹ ∅
 
-div-quotient : tie.Need-div-quotient
-div-quotient c = (divisor (ρ c) w64 unit tt (unit-positive (c .args .num) (c .args .den) (c .pre .0)), fits (ρ c) w64 quotient tt)
-
 returns : tie.Need-returns
 returns c =
     let s = c .before in
@@ -36,6 +32,9 @@ returns-2 : tie.Need-returns-2
 returns-2 c =
     let s = c .before in
     result (ρ s) w64 quotient tt ∙ quotient-nearest (s .args .num) (s .args .den) (s .pre .0) (else-lt (ρ s) w64 (twice ⊜ unit) (♯ 0) tt (c .if1 .left))
+
+div-quotient : tie.Need-div-quotient
+div-quotient c = (divisor (ρ c) w64 unit tt (unit-positive (c .args .num) (c .args .den) (c .pre .0)), fits (ρ c) w64 quotient tt)
 
 pub nearest-spec : {M : Type 1} → statement M
 nearest-spec = tie.close (tie.spec

@@ -1,5 +1,5 @@
 -- `fraction::frame` meets its contract.
-use mathlib.Core.Path.{_≡_, _∙_, ap}
+use mathlib.Core.Path.{_∙_, ap}
 use lib.Ieee.{binary32}
 use mir.Facts.{toZ-ofZ}
 use Rattle.model.specs.Fraction.{fraction}

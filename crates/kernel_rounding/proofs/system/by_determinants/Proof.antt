@@ -8,8 +8,8 @@ use lib.Signed.{_<ℤ_}
 use mir.Syntax.{w64}
 use mir.Facts.{toZ-ofZ}
 use Rattle.integers.specs.Size.{_within_, wide}
-use Rattle.integers.specs.Machine.{Code, var, _⊟_, _⊠_, Within, ∅, _▹_, value, held, safe, bound, fits, result, held-within, answer}
-use Rattle.model.specs.System.{System, det, det₁, det₂, rounded₁, rounded₂}
+use Rattle.integers.specs.Machine.{Code, var, _⊟_, _⊠_, Within, ∅, _▹_, value, held, safe, result, held-within, answer}
+use Rattle.model.specs.System.{System, det, rounded₁, rounded₂}
 use Rattle.model.specs.Rounding.{nearest}
 use Rattle.kernel_rounding.specs.Systems.{Solvable}
 use Rattle.kernel_rounding.proofs.system.by_determinants.Statement.{statement}
@@ -55,12 +55,6 @@ given c = let a = c .args in record { a₁₁ = a .a11; a₁₂ = a .a12; a₂�
 solvable : (c : lts.Start Learnt reads.Pre reads.Post) → Solvable (given c)
 solvable c = c .pre
 
-nearest-requires : tie.Need-nearest-requires
-nearest-requires c κs = let h = solvable c in asked h d₁ (wide (held-within (ρ h) w64 d₁ tt) tt)
-
-nearest-requires-2 : tie.Need-nearest-requires-2
-nearest-requires-2 c κs = let h = solvable (c .before) in asked h d₂ (wide (held-within (ρ h) w64 d₂ tt) tt)
-
 returns : tie.Need-returns
 unfolding rounded₁ rounded₂
 returns c =
@@ -68,6 +62,12 @@ returns c =
     ap₂ (λ x y. x ∷ y ∷ [])
     (toZ-ofZ (record { sfits = c .before .nearest .ok }) ∙ rounds h d₁ tt (c .before .nearest .ensures))
     (toZ-ofZ (record { sfits = c .nearest2 .ok }) ∙ rounds h d₂ tt (c .nearest2 .ensures))
+
+nearest-requires : tie.Need-nearest-requires
+nearest-requires c κs = let h = solvable c in asked h d₁ (wide (held-within (ρ h) w64 d₁ tt) tt)
+
+nearest-requires-2 : tie.Need-nearest-requires-2
+nearest-requires-2 c κs = let h = solvable (c .before) in asked h d₂ (wide (held-within (ρ h) w64 d₂ tt) tt)
 
 pub by-determinants-spec : {M : Type 1} → statement M
 by-determinants-spec = tie.close (answer (λ c. ρ (solvable c)) w64 d₂ tt (answer (λ c. ρ (solvable c)) w64 d₁ tt (answer (λ c. ρ (solvable c)) w64 d tt tie.spec))

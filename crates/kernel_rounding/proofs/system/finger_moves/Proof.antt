@@ -2,11 +2,11 @@
 use mathlib.Core.Path.{_≡_, sym, subst, _∙_, ap}
 use mathlib.Core.List.{List, [], _∷_}
 use Prim.Native.Nat.{ℕ, _^_}
-use lib.IntN.{ℤ, pos, negℤ, +ℤ-idl, _+ℤ_, _*ℤ_}
+use lib.IntN.{ℤ, pos, negℤ, +ℤ-idl, _*ℤ_}
 use lib.Signed.{_<ℤ_}
 use mir.Syntax.{w32, w64}
 use Rattle.integers.specs.Size.{natural, wide}
-use Rattle.integers.specs.Machine.{Code, var, nat, ♯_, _⊞_, _⊟_, _⊠_, cast, done, Within, ∅, _▹_, held, fits, result, held-within, answer}
+use Rattle.integers.specs.Machine.{Code, var, nat, ♯_, _⊞_, _⊟_, _⊠_, cast, done, Within, ∅, _▹_, held, result, held-within, answer}
 use Rattle.model.specs.System.{System, det}
 use Rattle.model.specs.Step.{fingerSystem}
 use Rattle.model.specs.Ranges.{displacementOk, contactOk, forceOk}

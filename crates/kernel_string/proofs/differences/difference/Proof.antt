@@ -1,9 +1,8 @@
 -- `differences::difference` meets its contract.
-use mathlib.Core.Path.{_≡_, refl, sym, _∙_}
-use Prim.Native.Nat.{suc, _<_}
-use native.Mathlib.Omega.{arith}
-use lib.IntN.{ℤ, pos}
-use lib.ListN.{length, getD}
+use mathlib.Core.Path.{refl, sym, _∙_}
+use Prim.Native.Nat.{suc}
+use lib.IntN.{pos}
+use lib.ListN.{getD}
 use mir.Syntax.{w32, w64}
 use mir.Val.{SFits}
 use borrow.Author.Needs.{needs, sfits-of}

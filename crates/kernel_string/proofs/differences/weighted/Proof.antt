@@ -10,7 +10,6 @@ use lib.ListN.{length, getD}
 use mir.Syntax.{w32, w64}
 use mir.Val.{SFits, toZ, ofZ}
 use mir.Facts.{toZ-ofZ}
-use borrow.Author.Needs.{needs}
 use Rattle.integers.specs.Filled.{Begun, begun-none, begun-same, begun-more, begun-all}
 use Rattle.model.specs.Ranges as Ranges
 use Rattle.model.specs.Ranges.{displacementOk}
@@ -109,13 +108,6 @@ last-point c =
     let j = inside (l .before) (l .loop .i) k in
     (k, j .1, j .2)
 
-weigh-requires-2 : tie.Need-weigh-requires-2 Inv-loop μ-loop
-unfolding displacementOk Ranges.inside
-weigh-requires-2 c κs =
-    let l = c .before .before .before in
-    let a = l .before in
-    (ranges a .setup, displaced a (l .loop .left) (l .loop .i) (l .loop .inv .1), newer-ok a (l .loop .i), tt, older-ok a (l .loop .i))
-
 returns : tie.Need-returns Inv-loop μ-loop
 returns c =
     let l = c .before .before .before .before in
@@ -128,6 +120,13 @@ returns c =
     let right : pos 0 ≡ at (u a) (suc (suc i)) = sym (rw end (at-past (newer-spans (ranges a)))) in
     begun-all (λ j q. weighted-past (s a) (newer-spans (ranges a)) (older-spans (ranges a)) j (omega arith))
     (begun-more (k .2) (l .loop .inv .2) (weighs (ranges a) i (k .0) (l .loop .inv .1) (read-newer a i) right (read-older a i) (record { sfits = c .weigh2 .ok }) (c .weigh2 .ensures)))
+
+weigh-requires-2 : tie.Need-weigh-requires-2 Inv-loop μ-loop
+unfolding displacementOk Ranges.inside
+weigh-requires-2 c κs =
+    let l = c .before .before .before in
+    let a = l .before in
+    (ranges a .setup, displaced a (l .loop .left) (l .loop .i) (l .loop .inv .1), newer-ok a (l .loop .i), tt, older-ok a (l .loop .i))
 
 pub weighted-spec : {M : Type 1} → statement M
 weighted-spec = tie.close (tie.spec Inv-loop μ-loop

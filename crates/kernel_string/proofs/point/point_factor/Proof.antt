@@ -16,5 +16,8 @@ body = ♯ 4096 ⊞ nat 0 ⊞ var 1 ⊠ var 1
 ρ : (c : lts.Start reads.Pre reads.Post) → Within (pos (c .args .setup .plain) ∷ c .args .gradient ∷ []) (4096 ∷ 255 ∷ [])
 ρ c = natural (setup-facts (c .args .setup) (c .pre .0) .plain) ▹ c .pre .1 ▹ ∅
 
+returns : tie.Need-returns
+returns c = result (ρ c) w64 body tt
+
 pub point-factor-spec : {M : Type 1} → statement M
-point-factor-spec = tie.close (answer ρ w64 body tt tie.spec (λ c. result (ρ c) w64 body tt))
+point-factor-spec = tie.close (answer ρ w64 body tt tie.spec returns)
