@@ -3,9 +3,8 @@ pub mod roots;
 
 ghost use mathlib.Core.Path.{_≡_};
 ghost use Prim.Native.Nat.{min};
-ghost use Rattle.integers.specs.Filled.{tabulate};
 ghost use Rattle.model.specs.Gradient;
-ghost use Rattle.model.specs.Gradient.{root};
+ghost use Rattle.kernel_contact.specs.Table.{rootTable};
 
 // The place of q in the table: the last one for all q beyond it.
 fn capped(q: u64) -> usize
@@ -16,7 +15,7 @@ fn capped(q: u64) -> usize
 
 // The gradient, by a lent root table.
 pub fn gradient(roots: &[u16; 1024], stiffness: u16, depth: i32) -> i64
-    requires { ⌜ now roots ≡ tabulate 1024 root ⌝ }
+    requires { ⌜ now roots ≡ rootTable ⌝ }
     ensures { λ r. ⌜ r ≡ Gradient.gradient stiffness depth ⌝ }
 {
     if depth <= 0 {

@@ -1,7 +1,6 @@
 // 01, 'Contact gradient': the root table.
 ghost use mathlib.Core.Path.{_≡_};
-ghost use Rattle.integers.specs.Filled.{tabulate};
-ghost use Rattle.model.specs.Gradient.{root};
+ghost use Rattle.kernel_contact.specs.Table.{rootTable};
 
 // Entry q is the greatest whole number whose square is at most 64·q. Every 64th entry has its q beside it.
 const ROOTS: [u16; 1024] = [
@@ -1033,7 +1032,7 @@ const ROOTS: [u16; 1024] = [
 
 // The root table, to be lent to `gradient`: an index into the constant would copy it whole at each lookup.
 pub fn root_table() -> [u16; 1024]
-    ensures { λ r. ⌜ r ≡ tabulate 1024 root ⌝ }
+    ensures { λ r. ⌜ r ≡ rootTable ⌝ }
 {
     ROOTS
 }

@@ -17,7 +17,7 @@ unfoldable pub weighted : Setup → List ℤ → List ℤ → List ℤ
 weighted s u v = places (length u) (λ i. pos (L s) *ℤ at u i -ℤ pos (M s) *ℤ at (D1 u) i +ℤ pos (S s) *ℤ at (minus u v) i)
 
 -- a string in an array that has room for every place: entry i is the value at place i, 0 at both ends and past them
-abbrev pub placed : List ℤ → List ℤ
+unfoldable pub placed : List ℤ → List ℤ
 placed t = tabulate 129 (at t)
 
 -- two strings that pass 1 to 6 and 11

@@ -17,6 +17,7 @@ use Rattle.integers.specs.Machine.{var, ♯_, ∅, _▸_, if-le, else-le, index
 use Rattle.integers.specs.Filled.{getD-tabulate}
 use Rattle.model.specs.Gradient.{root, gradient}
 use Rattle.laws.specs.Gradient.{gradient-size, gradient-is}
+use Rattle.kernel_contact.specs.Table.{rootTable}
 use Rattle.kernel_contact.proofs.gradient.Statement.{statement}
 use Rattle.kernel_contact.proofs.gradient.Tie as tie
 
@@ -36,7 +37,7 @@ mul-q c =
     rw (toZ-ofZ (s .fits .depth)) (record { fits = lt-of-le-of-lt product (lit< tt) })
 
 entry : (c : tie.After-capped) → let s = c .before .before in pos (getD (s .args .roots .now) (c .capped .result) 0) ≡ gradient (s .args .stiffness) (s .args .depth)
-unfolding gradient
+unfolding gradient rootTable
 entry c =
     let s = c .before .before in
     let q = c .capped .result in

@@ -7,6 +7,7 @@ use lib.Dec.{T, leb, ltb}
 use mir.Facts.{and-yes, leb-yes, ltb-yes}
 use Rattle.model.specs.Gradient.{root}
 use Rattle.laws.specs.Gradient.{root-is, root-unique}
+use Rattle.kernel_contact.specs.Table.{rootTable}
 use Rattle.kernel_contact.proofs.roots.Table.{tabulated}
 use Rattle.kernel_contact.proofs.roots.root_table.Statement.{statement}
 use Rattle.kernel_contact.proofs.roots.root_table.Tie as tie
@@ -22,7 +23,7 @@ only q x h t =
     root-unique (record { low = leb-yes low; high = ltb-yes high }) (root-is q (le-of-suc-le-suc h))
 
 returns : tie.Need-returns
-unfolding isRoot
+unfolding isRoot rootTable
 returns c = tabulated isRoot 0 only refl tt
 
 pub root-table-spec : {M : Type 1} → statement M

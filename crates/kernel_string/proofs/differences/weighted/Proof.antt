@@ -17,7 +17,7 @@ use Rattle.model.specs.Setup.{L, M, S, points}
 use Rattle.model.specs.Differences.{at}
 use Rattle.model.specs.declared.Setup.{Setup}
 use Rattle.laws.specs.Strings.{at-past}
-use Rattle.kernel_string.specs.Weighted.{weighted, StringRanges}
+use Rattle.kernel_string.specs.Weighted.{weighted, placed, StringRanges}
 use Rattle.kernel_string.proofs.InRange.{displacement, displacement-read, newer-spans, older-spans, some-point, most-points}
 use Rattle.kernel_string.proofs.differences.Linear.{weighted-point, weighted-past}
 use Rattle.kernel_string.proofs.differences.weighted.Statement.{statement}
@@ -109,6 +109,7 @@ last-point c =
     (k, j .1, j .2)
 
 returns : tie.Need-returns Inv-loop μ-loop
+unfolding placed
 returns c =
     let l = c .before .before .before .before in
     let a = l .before in

@@ -21,7 +21,7 @@ use Rattle.model.specs.Step.{factor, rightSide}
 use Rattle.model.specs.declared.Setup.{Setup}
 use Rattle.laws.specs.Sizes.{inside-within}
 use Rattle.laws.specs.Strings.{at-minus}
-use Rattle.kernel_string.specs.Weighted.{weighted, StringRanges, sideSizes}
+use Rattle.kernel_string.specs.Weighted.{weighted, placed, StringRanges, sideSizes}
 use Rattle.kernel_string.proofs.InRange.{displacement-size, contact-size, newer-spans, older-spans, most-points}
 use Rattle.kernel_string.proofs.differences.Linear.{weighted-size, weighted-linear}
 use Rattle.kernel_string.proofs.point.point_equation.Statement.{statement}
@@ -69,9 +69,11 @@ module _ (c : lts.Start Learnt reads.Pre reads.Post) where
 
   -- an entry of the array is the value at that place
   placed-entry : (k : ℕ) → k < 129 → getD t k (pos 0) ≡ at (weighted s u v) k
+  unfolding placed
   placed-entry k l = ap (λ x. getD x k (pos 0)) (c .pre .1) ∙ getD-tabulate 129 (at (weighted s u v)) (pos 0) k l
 
   entry-size : (k : ℕ) → getD t k (pos 0) within 3 * 2 ^ 32
+  unfolding placed
   entry-size k = go (decLt k 129)
     where
       go : Dec (k < 129) → getD t k (pos 0) within 3 * 2 ^ 32
