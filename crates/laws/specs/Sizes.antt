@@ -48,7 +48,7 @@ pub record StepRanges (s : Setup) (x : State) (G : PointsAndFinger) (F : Forces)
   pub forces : (F .pluck within 1073741824) × (F .finger within 1073741824)
   pub lengths : length (x .newer) ≡ length (x .older)
 
-D1-bounded : (u : List ℤ) {n : ℕ} → Bounded u n → Bounded (D1 u) (n + 2 * n + n)
+pub D1-bounded : (u : List ℤ) {n : ℕ} → Bounded u n → Bounded (D1 u) (n + 2 * n + n)
 unfolding D1
 D1-bounded u {n} h zero = weaken (num 0) zero-le
 D1-bounded u {n} h (suc k) = go (ltb k (length u)) refl

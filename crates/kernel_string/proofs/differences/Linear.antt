@@ -24,7 +24,7 @@ module _ (s : Setup) {u v : List ℤ} {n : ℕ} (hu : u spans n) (hv : v spans n
   f : ℕ → ℤ
   f i = pos (L s) *ℤ at u i -ℤ pos (M s) *ℤ at (D1 u) i +ℤ pos (S s) *ℤ at (minus u v) i
 
-  spans-weighted : weighted s u v spans n
+  pub spans-weighted : weighted s u v spans n
   unfolding weighted f
   spans-weighted = record { long = length-tabulate (length u) (λ k. f (suc k)) ∙ hu .long }
 
@@ -56,10 +56,11 @@ module _ (s : Setup) {u v : List ℤ} {n : ℕ} (hu : u spans n) (hv : v spans n
 
   -- D1 of it is the string terms of c
   pub weighted-linear : (k : ℕ) → k < n
-      → bend (at (weighted s u v)) k ≡ pos (L s) *ℤ at (D1 u) (suc k) -ℤ pos (M s) *ℤ at (D2 u) (suc k) +ℤ pos (S s) *ℤ at (D1 (minus u v)) (suc k)
+      → at (D1 (weighted s u v)) (suc k) ≡ pos (L s) *ℤ at (D1 u) (suc k) -ℤ pos (M s) *ℤ at (D2 u) (suc k) +ℤ pos (S s) *ℤ at (D1 (minus u v)) (suc k)
   unfolding f
   weighted-linear k l =
-      bends (at-weighted k (omega arith)) (at-weighted (suc k) (omega arith)) (at-weighted (suc (suc k)) (omega arith))
+      at-D1 spans-weighted k l
+      ∙ bends (at-weighted k (omega arith)) (at-weighted (suc k) (omega arith)) (at-weighted (suc (suc k)) (omega arith))
       ∙ solve 12 (λ L M S x y z x' y' z' x'' y'' z''. (L ⊗ x ⊖ M ⊗ y ⊕ S ⊗ z) ⊖ # 2 ⊗ (L ⊗ x' ⊖ M ⊗ y' ⊕ S ⊗ z') ⊕ (L ⊗ x'' ⊖ M ⊗ y'' ⊕ S ⊗ z'')
       ≐ L ⊗ (x ⊖ # 2 ⊗ x' ⊕ x'') ⊖ M ⊗ (y ⊖ # 2 ⊗ y' ⊕ y'') ⊕ S ⊗ (z ⊖ # 2 ⊗ z' ⊕ z'')) tt (pos (L s)) (pos (M s)) (pos (S s))
       (at u k) (at (D1 u) k) (at a k) (at u (suc k)) (at (D1 u) (suc k)) (at a (suc k)) (at u (suc (suc k))) (at (D1 u) (suc (suc k))) (at a (suc (suc k)))

@@ -11,19 +11,18 @@ use mir.Val.{toZ, ofZ}
 use mir.Facts.{toZ-ofZ}
 use Rattle.integers.specs.Filled.{length-tabulate, getD-tabulate}
 use Rattle.integers.specs.Solve.{_⊕_, _⊖_, _≐_, solve}
-use Rattle.integers.specs.Size.{_within_, _⟨-⟩_, _⟨+⟩_, _⟨*⟩_, num, wide}
-use Rattle.integers.specs.Sum.{bend}
+use Rattle.integers.specs.Size.{_within_, _⟨-⟩_, num, wide}
 use Rattle.integers.specs.Machine.{var, Within, ∅, _▹_, entry, result, held-within}
 use Rattle.model.specs.Ranges.{forceOk}
 use Rattle.model.specs.Setup.{L, M, S}
 use Rattle.model.specs.Differences.{at, minus, D1, D2}
 use Rattle.model.specs.Step.{factor, rightSide}
 use Rattle.model.specs.declared.Setup.{Setup}
-use Rattle.laws.specs.Sizes.{inside-within}
+use Rattle.laws.specs.Sizes.{inside-within, D1-bounded}
 use Rattle.laws.specs.Strings.{at-minus}
 use Rattle.kernel_string.specs.Weighted.{weighted, placed, StringRanges, sideSizes}
 use Rattle.kernel_string.proofs.InRange.{displacement-size, contact-size, newer-spans, older-spans, most-points}
-use Rattle.kernel_string.proofs.differences.Linear.{weighted-size, weighted-linear}
+use Rattle.kernel_string.proofs.differences.Linear.{spans-weighted, weighted-size, weighted-linear}
 use Rattle.kernel_string.proofs.point.point_equation.Statement.{statement}
 use Rattle.kernel_string.proofs.point.point_equation.Tie as tie
 use Rattle.kernel_string.proofs.point.point_equation.Reads as reads
@@ -83,25 +82,25 @@ module _ (c : lts.Start Learnt reads.Pre reads.Post) where
   place : i < 127
   place = let h = most-points ranges in let k = c .pre .6 in omega arith
 
-  terms : bend (λ k. getD t k (pos 0)) i ≡ pos (L s) *ℤ at (D1 u) (suc i) -ℤ pos (M s) *ℤ at (D2 u) (suc i) +ℤ pos (S s) *ℤ at (D1 (minus u v)) (suc i)
-  terms = let k = place in bends (placed-entry i (omega arith)) (placed-entry (suc i) (omega arith)) (placed-entry (suc (suc i)) (omega arith)) ∙ weighted-linear s (newer-spans ranges) (older-spans ranges) i (c .pre .6)
-    where
-      bends : {x y z x' y' z' : ℤ} → x ≡ x' → y ≡ y' → z ≡ z' → x -ℤ pos 2 *ℤ y +ℤ z ≡ x' -ℤ pos 2 *ℤ y' +ℤ z'
-      bends p q r = cc
+  terms : at (D1 (weighted s u v)) (suc i) ≡ pos (L s) *ℤ at (D1 u) (suc i) -ℤ pos (M s) *ℤ at (D2 u) (suc i) +ℤ pos (S s) *ℤ at (D1 (minus u v)) (suc i)
+  terms = weighted-linear s (newer-spans ranges) (older-spans ranges) i (c .pre .6)
+
+  in-weighted : i < length (weighted s u v)
+  in-weighted = rw (spans-weighted s (newer-spans ranges) (older-spans ranges) .long) (c .pre .6)
 
   rise-size : at (minus u v) (suc i) within 2097152
   rise-size = rw (at-minus (newer-spans ranges) (older-spans ranges) (suc i)) (displacement-size u (ranges .newer) (suc i) ⟨-⟩ displacement-size v (ranges .older) (suc i))
 
   -- what `point_side` is given, before it is read from its bits
-  ρ : Within (bend (λ k. getD t k (pos 0)) i ∷ at (minus u v) (suc i) ∷ g ∷ getD ψ i (pos 0) ∷ c .args .force ∷ []) sideSizes
+  ρ : Within (at (D1 (weighted s u v)) (suc i) ∷ at (minus u v) (suc i) ∷ g ∷ getD ψ i (pos 0) ∷ c .args .force ∷ []) sideSizes
   unfolding forceOk
-  ρ = (entry-size i ⟨-⟩ num 2 ⟨*⟩ entry-size (suc i) ⟨+⟩ entry-size (suc (suc i))) ▹ rise-size ▹ c .pre .4 ▹ contact-size ψ (c .pre .3) (suc i) ▹ inside-within 1073741824 (c .args .force) (c .pre .5) ▹ ∅
+  ρ = D1-bounded (weighted s u v) (weighted-size ranges) (suc i) ▹ rise-size ▹ c .pre .4 ▹ contact-size ψ (c .pre .3) (suc i) ▹ inside-within 1073741824 (c .args .force) (c .pre .5) ▹ ∅
 
   read-gradient : toZ w64 (ofZ w64 g) ≡ g
   read-gradient = result ρ w64 (var 2) tt
 
   -- c, by the sum that the code works out
-  side : pos 8192 *ℤ at (minus u v) (suc i) +ℤ bend (λ k. getD t k (pos 0)) i +ℤ pos 2 *ℤ g *ℤ getD ψ i (pos 0) +ℤ c .args .force ≡ rightSide s u v g (at ψ (suc i)) (c .args .force) (suc i)
+  side : pos 8192 *ℤ at (minus u v) (suc i) +ℤ at (D1 (weighted s u v)) (suc i) +ℤ pos 2 *ℤ g *ℤ getD ψ i (pos 0) +ℤ c .args .force ≡ rightSide s u v g (at ψ (suc i)) (c .args .force) (suc i)
   side = ap (λ x. x +ℤ pos 2 *ℤ g *ℤ getD ψ i (pos 0) +ℤ c .args .force)
       (ap (λ x. pos 8192 *ℤ at (minus u v) (suc i) +ℤ x) terms
       ∙ solve 4 (λ x l m n. x ⊕ (l ⊖ m ⊕ n) ≐ x ⊕ l ⊖ m ⊕ n) tt (pos 8192 *ℤ at (minus u v) (suc i)) (pos (L s) *ℤ at (D1 u) (suc i)) (pos (M s) *ℤ at (D2 u) (suc i)) (pos (S s) *ℤ at (D1 (minus u v)) (suc i)))
@@ -114,8 +113,8 @@ module _ (c : lts.After-difference Learnt reads.Pre reads.Post) where
   abbrev a : lts.Start Learnt reads.Pre reads.Post
   a = c .before .before .before
 
-  terms-are : toZ w64 (ofZ w64 (c .before .d1 .result)) ≡ bend (λ k. getD (t a) k (pos 0)) (i a)
-  terms-are = toZ-ofZ (record { sfits = c .before .d1 .ok }) ∙ c .before .d1 .ensures
+  terms-are : toZ w64 (ofZ w64 (c .before .d1 .result)) ≡ at (D1 (weighted (s a) (u a) (v a))) (suc (i a))
+  terms-are = toZ-ofZ (record { sfits = c .before .d1 .ok }) ∙ c .before .d1 .ensures (weighted (s a) (u a) (v a)) (a .pre .1) (in-weighted a)
 
   terms-size : toZ w64 (ofZ w64 (c .before .d1 .result)) within 12 * 2 ^ 32
   terms-size = rw terms-are (entry (ρ a) 0)
