@@ -49,7 +49,9 @@ pub fn finger_moves(
     gradient: i64,
     force: i32,
 ) -> [i64; 2]
-    requires { ⌜ Passed (setupRules setup) × FingerRanges finger × (pos 0 <ℤ factor) × (factor within 73217) × (side within 2 ^ 37) × (gradient within 255) × T (forceOk force) ⌝ }
+    requires { ⌜ Passed (setupRules setup) × FingerRanges finger
+        × (pos 0 <ℤ factor) × (factor within 73217) × (side within 2 ^ 37)
+        × (gradient within 255) × T (forceOk force) ⌝ }
     ensures { λ r. ⌜ r ≡ rounded (fingerSystem setup finger factor side gradient force) ⌝ }
 {
     let mass = setup.finger.mass;

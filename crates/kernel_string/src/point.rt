@@ -55,8 +55,14 @@ pub fn point_equation(
     force: i32,
     i: usize,
 ) -> Equation
-    requires { ⌜ StringRanges setup (now newer) (now older) × (now weighted ≡ placed (Weighted.weighted setup (now newer) (now older))) × (length (now contact) ≡ points setup) × T (all contactOk (now contact)) × (gradient within 255) × T (forceOk force) × (i < points setup) ⌝ }
-    ensures { λ r. ⌜ r ≡ record { factor = factor setup gradient; side = rightSide setup (now (newer .entry)) (now (older .entry)) gradient (at (now (contact .entry)) (suc i)) force (suc i) } ⌝ }
+    requires { ⌜ StringRanges setup (now newer) (now older)
+        × (now weighted ≡ placed (Weighted.weighted setup (now newer) (now older)))
+        × (length (now contact) ≡ points setup) × T (all contactOk (now contact))
+        × (gradient within 255) × T (forceOk force) × (i < points setup) ⌝ }
+    ensures { λ r. ⌜ r ≡ record {
+      factor = factor setup gradient;
+      side = rightSide setup (now (newer .entry)) (now (older .entry)) gradient (at (now (contact .entry)) (suc i)) force (suc i);
+    } ⌝ }
 {
     let factor = point_factor(setup, gradient);
     let terms = d1(weighted, i);
