@@ -13,7 +13,7 @@ use Rattle.integers.specs.Size.{_within_}
 
 -- the operations of two operands, and those by a literal, each with a bound of its result
 pub data Two : Type 0 where
-  add sub mul div rest : Two
+  add sub mul div remainder : Two
 
 pub data One : Type 0 where
   quot : ℤ → One
@@ -25,7 +25,7 @@ two add x y = x +ℤ y
 two sub x y = x -ℤ y
 two mul x y = x *ℤ y
 two div x y = quotZ x y
-two rest x y = remZ x y
+two remainder x y = remZ x y
 
 abbrev pub one : One → ℤ → ℤ
 one (quot k) x = quotZ x k
@@ -37,7 +37,7 @@ two-bound add m n = m + n
 two-bound sub m n = m + n
 two-bound mul m n = m * n
 two-bound div m n = m
-two-bound rest m n = m
+two-bound remainder m n = m
 
 abbrev pub one-bound : One → ℕ → ℕ
 one-bound (quot k) n = n / natAbs k
@@ -75,7 +75,7 @@ a ⊘ b = op₂ div a b
 
 -- the remainder, with the sign of a
 abbrev pub _⊜_ : Code → Code → Code
-a ⊜ b = op₂ rest a b
+a ⊜ b = op₂ remainder a b
 
 -- by a literal: the bound is divided too
 abbrev pub _÷_ : Code → ℕ → Code
@@ -176,7 +176,7 @@ plain add = true
 plain sub = true
 plain mul = true
 plain div = false
-plain rest = false
+plain remainder = false
 
 module _ (ns ms : List ℕ) where
   -- nothing wraps, and no divisor is 0

@@ -6,9 +6,8 @@ use native.Mathlib.Nat.{div-add-mod', mod-lt, zero-lt-suc}
 use lib.IntN.{ℤ, pos, negsuc, negℤ, _+ℤ_, _*ℤ_}
 use lib.Signed.{quotZ, remZ, _<ℤ_, ltZ-yes}
 use mir.Facts.{yes-ltb}
-use Rattle.integers.specs.Solve.{_⊕_, _⊗_, ⊝_, #_, _≐_}
+use Rattle.integers.specs.Solve.{_⊕_, _⊗_, ⊝_, #_, _≐_, solve}
 use Rattle.integers.specs.Derive.{_≺_, _≼_, _⊢_, times, deduce}
-use Rattle.integers.specs.Solve.{solve}
 use Rattle.integers.specs.Order.{nonneg}
 
 pub record Divided (a b : ℤ) : Type 0 where

@@ -15,7 +15,7 @@ use mir.Facts.{and-yes, toZ-ofZ}
 use Rattle.integers.specs.Tests.{ltZ-true, ltZ-false, leZ-true, leZ-false}
 use Rattle.integers.specs.Size as Size
 use Rattle.integers.specs.Size.{_within_, _⟨+⟩_, _⟨-⟩_, _⟨*⟩_}
-pub use Rattle.integers.specs.Code.{Two, add, sub, mul, div, rest, One, quot, rem, shr, two, one, two-bound, one-bound}
+pub use Rattle.integers.specs.Code.{Two, add, sub, mul, div, remainder, One, quot, rem, shr, two, one, two-bound, one-bound}
 pub use Rattle.integers.specs.Code.{Code, var, nat, loc, lit, op₂, op₁, cast, done, ♯_, _⊞_, _⊟_, _⊠_, _⊘_, _⊜_, _÷_, _≫_, Env, ∅, _▹_, _▸_, Within}
 pub use Rattle.integers.specs.Code.{value, held, raw, bound, own, inner, safe, plain, sure₁, sure, Given₁, Given}
 
@@ -26,7 +26,7 @@ two-within add h k = h ⟨+⟩ k
 two-within sub h k = h ⟨-⟩ k
 two-within mul h k = h ⟨*⟩ k
 two-within div {x} {y} h k = Size.weaken (Size.quot h y) (div-le-self _ (natAbs y))
-two-within rest {x} {y} h k = Size.rem h y
+two-within remainder {x} {y} h k = Size.rem h y
 
 one-within : (o : One) {x : ℤ} {n : ℕ} → x within n → one o x within one-bound o n
 one-within (quot k) h = Size.quot h k

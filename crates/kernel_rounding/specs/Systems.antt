@@ -28,7 +28,7 @@ systemOf matrix right =
 abbrev pub rounded : System → List ℤ
 rounded t = rounded₁ t ∷ rounded₂ t ∷ []
 
--- one solution, and numbers no larger than 01's ranges make them: A + g², g², m + g², and the right sides
+-- one solution, and numbers within what 01's ranges make of A + g², g² and m + g², and of the right sides, rounded up
 pub record Solvable (t : System) : Type 0 where
   pub regular : pos 0 <ℤ det t
   pub a₁₁ : t .a₁₁ within 138242

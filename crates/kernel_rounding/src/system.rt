@@ -60,14 +60,14 @@ pub fn finger_moves(
     let contact = finger.contact;
     let square = gradient * gradient;
     let pull = 2 * gradient * (contact as i64);
-    let rise = (newer as i64) - (older as i64);
+    let change = (newer as i64) - (older as i64);
     let matrix = [
         [factor + square, -square],
         [-square, (mass as i64) + square],
     ];
     let right = [
         side - pull,
-        2 * (mass as i64) * rise + (force as i64) + pull,
+        2 * (mass as i64) * change + (force as i64) + pull,
     ];
     solve(matrix, right)
 }

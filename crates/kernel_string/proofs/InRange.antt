@@ -1,6 +1,6 @@
 -- What two strings in range give the code: their length, the size of each displacement, and that each is read back from 32 bits as itself.
 use mathlib.Core.Path.{_≡_}
-use mathlib.Core.List.{List, []}
+use mathlib.Core.List.{List}
 use Prim.Native.Nat.{ℕ, suc, _≤_}
 use native.Mathlib.Omega.{arith}
 use lib.Dec.{T, lit<}
@@ -11,19 +11,14 @@ use mir.Val.{toZ, ofZ}
 use Rattle.integers.specs.Bits.{back}
 use Rattle.integers.specs.Size.{_within_}
 use Rattle.model.specs.Ranges.{all, inside, displacementOk, contactOk}
-use Rattle.model.specs.Setup.{points, setupRules}
+use Rattle.model.specs.Setup.{points}
 use Rattle.model.specs.Differences.{at}
 use Rattle.model.specs.declared.Setup.{Setup}
-use Rattle.promises.specs.Promises.{Passed}
-use Rattle.laws.specs.Accepted.{SetupFacts, sound}
+use Rattle.laws.specs.Accepted.{SetupFacts, setup-facts}
 use Rattle.laws.specs.Refusals.{at-all}
 use Rattle.laws.specs.Sizes.{bounded}
 use Rattle.laws.specs.Strings.{_spans_}
 use Rattle.kernel_string.specs.Weighted.{StringRanges}
-
-pub setup-facts : (s : Setup) → Passed (setupRules s) → SetupFacts s
-unfolding setupRules
-setup-facts s h = sound s [] h
 
 -- a string of displacements
 module _ (u : List ℤ) (h : T (all displacementOk u)) where

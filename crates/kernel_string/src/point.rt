@@ -36,12 +36,12 @@ fn point_factor(setup: Setup, gradient: i64) -> i64
     4096 + (plain as i64) + gradient * gradient
 }
 
-// c, from the string terms, the move before, and the contact and the pluck force at the point.
-fn point_side(terms: i64, rise: i64, gradient: i64, contact: i32, force: i32) -> i64
-    requires { ⌜ Within (terms ∷ rise ∷ gradient ∷ contact ∷ force ∷ []) sideSizes ⌝ }
-    ensures { λ r. ⌜ r ≡ pos 8192 *ℤ rise +ℤ terms +ℤ pos 2 *ℤ gradient *ℤ contact +ℤ force ⌝ }
+// c, from the string terms, newer − older displacement, and the contact and the pluck force at the point.
+fn point_side(terms: i64, change: i64, gradient: i64, contact: i32, force: i32) -> i64
+    requires { ⌜ Within (terms ∷ change ∷ gradient ∷ contact ∷ force ∷ []) sideSizes ⌝ }
+    ensures { λ r. ⌜ r ≡ pos 8192 *ℤ change +ℤ terms +ℤ pos 2 *ℤ gradient *ℤ contact +ℤ force ⌝ }
 {
-    8192 * rise + terms + 2 * gradient * (contact as i64) + (force as i64)
+    8192 * change + terms + 2 * gradient * (contact as i64) + (force as i64)
 }
 
 // The equation of the point at place i + 1, from its gradient and the pluck force there. `weighted` is that of both strings.
@@ -66,8 +66,8 @@ pub fn point_equation(
 {
     let factor = point_factor(setup, gradient);
     let terms = d1(weighted, i);
-    let rise = difference(newer, older, i);
-    let side = point_side(terms, rise, gradient, contact[i], force);
+    let change = difference(newer, older, i);
+    let side = point_side(terms, change, gradient, contact[i], force);
     Equation { factor, side }
 }
 

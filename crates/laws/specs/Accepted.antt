@@ -67,6 +67,10 @@ sound s rules h =
       last = leb-yes (place .1);
     }
 
+pub setup-facts : (s : Setup) → Passed (setupRules s) → SetupFacts s
+unfolding setupRules
+setup-facts s h = sound s [] h
+
 -- ---- a setup with buffers of its length, as rules 1 to 6 leave it
 
 pub record Examined (s : Setup) (neck : Neck) (x : State) : Type 0 where

@@ -83,7 +83,7 @@ module _ {s : Setup} {x : State} {G : PointsAndFinger} {F : Forces} (b : StepRan
   pub rounded₁-size : rounded₁ (system s x G F) within 2 ^ 32
   unfolding rounded₁ system a mass q b₁ b₂
   rounded₁-size = record {
-    size = ≤-pos (nearest-size (det₁ (system s x G F)) (pos (2 ^ 32)) (det-positive s x G F (b .mass-low))
+    size = ≤-pos (nearest-size (det₁ (system s x G F)) (pos (2 ^ 32)) (det-positive s x G F (b .setup .mass-low))
         (≤-trans (≤-of-eq (ap size (solve 4 (λ u v m q. u ⊗ (m ⊕ q) ⊖ ⊝ q ⊗ v ≐ (m ⊕ q) ⊗ u ⊕ q ⊗ v) tt b₁ b₂ mass q)))
         (≤-trans (numerator-≤ a mass q b₁ b₂ (pos (2 ^ 32)) (nonneg (m s)) q-low (nonneg (2 ^ 32)) (≤-trans sides (≤-times {c = pos (2 ^ 32)} (nonneg (2 ^ 32)) (A-low s G (p s)))))
         (≤-of-eq (ap (λ z. pos (2 ^ 32) *ℤ z) (solve 3 (λ a m q. a ⊗ (m ⊕ q) ⊕ q ⊗ m ≐ (a ⊕ q) ⊗ (m ⊕ q) ⊖ ⊝ q ⊗ ⊝ q) tt a mass q))))));
@@ -93,9 +93,9 @@ module _ {s : Setup} {x : State} {G : PointsAndFinger} {F : Forces} (b : StepRan
   pub rounded₂-size : rounded₂ (system s x G F) within 2 ^ 44
   unfolding rounded₂ system a mass q b₁ b₂
   rounded₂-size = record {
-    size = ≤-pos (nearest-size (det₂ (system s x G F)) (pos (2 ^ 44)) (det-positive s x G F (b .mass-low))
+    size = ≤-pos (nearest-size (det₂ (system s x G F)) (pos (2 ^ 44)) (det-positive s x G F (b .setup .mass-low))
         (≤-trans (≤-of-eq (ap size (solve 4 (λ u v a q. (a ⊕ q) ⊗ v ⊖ u ⊗ ⊝ q ≐ (a ⊕ q) ⊗ v ⊕ q ⊗ u) tt b₁ b₂ a q)))
-        (≤-trans (numerator-≤ mass a q b₂ b₁ (pos (2 ^ 44)) a-low q-low (nonneg (2 ^ 44)) (≤-trans (≤-of-eq (+ℤ-comm (size b₂) (size b₁))) (≤-trans sides (≤-times {a = pos 1} {c = pos (2 ^ 44)} (nonneg (2 ^ 44)) (pos-≤ (b .mass-low))))))
+        (≤-trans (numerator-≤ mass a q b₂ b₁ (pos (2 ^ 44)) a-low q-low (nonneg (2 ^ 44)) (≤-trans (≤-of-eq (+ℤ-comm (size b₂) (size b₁))) (≤-trans sides (≤-times {a = pos 1} {c = pos (2 ^ 44)} (nonneg (2 ^ 44)) (pos-≤ (b .setup .mass-low))))))
         (≤-of-eq (ap (λ z. pos (2 ^ 44) *ℤ z) (solve 3 (λ a m q. m ⊗ (a ⊕ q) ⊕ q ⊗ a ≐ (a ⊕ q) ⊗ (m ⊕ q) ⊖ ⊝ q ⊗ ⊝ q) tt a mass q))))));
   }
 

@@ -2,7 +2,7 @@
 use mathlib.Core.Path.{_≡_, refl, sym, _∙_}
 use mathlib.Core.Bool.{Bool, true, false, cond}
 use mathlib.Core.List.{List, [], _∷_, zipWith}
-use Prim.Native.Nat.{ℕ, zero, suc, _+_, _*_, _^_, _≤_, zero-le}
+use Prim.Native.Nat.{ℕ, zero, suc, _+_, _*_, _^_, zero-le}
 use lib.Dec.{T, eqb, ltb, ltb→lt, nltb→le}
 use lib.IntN.{ℤ, pos, negℤ, _-ℤ_}
 use lib.Signed.{leZ, leZ-yes}
@@ -13,7 +13,7 @@ use Rattle.integers.specs.Order.{natAbs-between}
 use Rattle.integers.specs.Sum.{bend}
 use Rattle.integers.specs.Size.{_within_, _⟨+⟩_, _⟨-⟩_, _⟨*⟩_, num, natural, weaken, wide, size}
 use Rattle.model.specs.Ranges.{all, inside, between, displacementOk, contactOk, forceOk}
-use Rattle.model.specs.Setup.{L, M, S, Z, K, m, p, e, points, lengthOk, setupRules}
+use Rattle.model.specs.Setup.{K, p, e, points, lengthOk, setupRules}
 use Rattle.model.specs.Differences.{at, minus, D1}
 use Rattle.model.specs.Gradient.{gradient}
 use Rattle.model.specs.State.{State, Neck, Forces, PointsAndFinger}
@@ -32,12 +32,7 @@ Bounded u n = (i : ℕ) → at u i within n
 
 -- 01's ranges, as a step's refusals 1 to 12 leave them
 pub record StepRanges (s : Setup) (x : State) (G : PointsAndFinger) (F : Forces) : Type 0 where
-  pub tension : L s ≤ 4096
-  pub stiffness : M s ≤ 1024
-  pub viscous : S s ≤ 2048
-  pub plain : Z s ≤ 4096
-  pub mass : m s ≤ 1048576
-  pub mass-low : 1 ≤ m s
+  pub setup : SetupFacts s
   pub newer : Bounded (x .newer) 1048576
   pub older : Bounded (x .older) 1048576
   pub contact : Bounded (x .contact) 67108864
@@ -71,14 +66,14 @@ module _ {s : Setup} {x : State} {G : PointsAndFinger} {F : Forces} (b : StepRan
 
   pub A-size : (i : ℕ) → A s G i within 73217
   unfolding A
-  A-size i = num 4096 ⟨+⟩ natural (b .plain) ⟨+⟩ b .gradients i ⟨*⟩ b .gradients i
+  A-size i = num 4096 ⟨+⟩ natural (b .setup .plain) ⟨+⟩ b .gradients i ⟨*⟩ b .gradients i
 
   pub c-size : (i : ℕ) → c s x G F i within 2 ^ 37
   unfolding c a
   c-size i =
       let u = x .newer in
-      wide (num 8192 ⟨*⟩ a-bounded i ⟨+⟩ natural (b .tension) ⟨*⟩ D1-bounded u (b .newer) i ⟨-⟩ natural (b .stiffness) ⟨*⟩ D1-bounded (D1 u) (D1-bounded u (b .newer)) i
-      ⟨+⟩ natural (b .viscous) ⟨*⟩ D1-bounded a a-bounded i ⟨+⟩ num 2 ⟨*⟩ b .gradients i ⟨*⟩ b .contact i ⟨+⟩ only (eqb i (e s)) (b .forces .0)) tt
+      wide (num 8192 ⟨*⟩ a-bounded i ⟨+⟩ natural (b .setup .tension) ⟨*⟩ D1-bounded u (b .newer) i ⟨-⟩ natural (b .setup .stiffness) ⟨*⟩ D1-bounded (D1 u) (D1-bounded u (b .newer)) i
+      ⟨+⟩ natural (b .setup .viscous) ⟨*⟩ D1-bounded a a-bounded i ⟨+⟩ num 2 ⟨*⟩ b .gradients i ⟨*⟩ b .contact i ⟨+⟩ only (eqb i (e s)) (b .forces .0)) tt
 
   pub b₁-size : system s x G F .b₁ within 2 ^ 38
   unfolding system
@@ -86,7 +81,7 @@ module _ {s : Setup} {x : State} {G : PointsAndFinger} {F : Forces} (b : StepRan
 
   pub b₂-size : system s x G F .b₂ within 2 ^ 43
   unfolding system
-  b₂-size = wide (num 2 ⟨*⟩ natural (b .mass) ⟨*⟩ (b .heights .0 ⟨-⟩ b .heights .1) ⟨+⟩ b .forces .1 ⟨+⟩ num 2 ⟨*⟩ b .gradient ⟨*⟩ b .finger) tt
+  b₂-size = wide (num 2 ⟨*⟩ natural (b .setup .mass) ⟨*⟩ (b .heights .0 ⟨-⟩ b .heights .1) ⟨+⟩ b .forces .1 ⟨+⟩ num 2 ⟨*⟩ b .gradient ⟨*⟩ b .finger) tt
 
 -- ---- the ranges hold where the refusals 1 to 12 are passed
 
@@ -108,25 +103,19 @@ zip-bounded (k ∷ ks) [] (suc i) = natural zero-le
 zip-bounded (k ∷ ks) (d ∷ ds) (suc zero) = gradient-size k d
 zip-bounded (k ∷ ks) (d ∷ ds) (suc (suc i)) = zip-bounded ks ds (suc i)
 
-setup-facts : (s : Setup) (neck : Neck) (x : State) (F : Forces) → Passed (callRules s neck x F) → SetupFacts s
+call-setup : (s : Setup) (neck : Neck) (x : State) (F : Forces) → Passed (callRules s neck x F) → SetupFacts s
 unfolding callRules
-setup-facts s neck x F h = sound s _ h
+call-setup s neck x F h = sound s _ h
 
 pub small : (s : Setup) (neck : Neck) (x : State) (F : Forces) → Passed (callRules s neck x F) → StepRanges s x (gradients s neck x) F
 unfolding callRules setupRules gradients lengthOk displacementOk contactOk forceOk between
 small s neck x F h =
     let rules = callRules s neck x F in
-    let facts = setup-facts s neck x F h in
     let sizes = all-yes (lengthOk s) (length (neck .heights) ∷ length (neck .stiffness) ∷ length (x .newer) ∷ length (x .older) ∷ length (x .contact) ∷ []) (fails 6 rules h) in
     let range = in-range x (fails 11 rules h, tt) in
     let forces = all-yes forceOk (F .pluck ∷ F .finger ∷ []) (fails 12 rules h) in
     record {
-      tension = facts .tension;
-      stiffness = facts .stiffness;
-      viscous = facts .viscous;
-      plain = facts .plain;
-      mass = facts .mass;
-      mass-low = facts .mass-low;
+      setup = call-setup s neck x F h;
       newer = bounded 1048576 (x .newer) (range .newer);
       older = bounded 1048576 (x .older) (range .older);
       contact = bounded 67108864 (x .contact) (range .contact);

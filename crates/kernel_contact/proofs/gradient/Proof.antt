@@ -1,4 +1,4 @@
--- `gradient::gradient` meets its contract: the product does not wrap, and the entry that is read is the gradient.
+-- `gradient` meets its contract: the product does not wrap, and the entry that is read is the gradient.
 use mathlib.Core.Path.{_≡_, sym, ap, _∙_}
 use Prim.Native.Nat.{_*_, _/_, min}
 use native.Mathlib.Nat.{mul-le-mul, le-of-lt, lt-of-le-of-lt}

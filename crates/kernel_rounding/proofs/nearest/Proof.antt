@@ -1,4 +1,4 @@
--- `rounding::nearest` meets its contract.
+-- `nearest` meets its contract.
 use mathlib.Core.Path.{_∙_}
 use mathlib.Core.List.{[], _∷_}
 use Prim.Native.Nat.{_^_}
@@ -19,6 +19,9 @@ unit = ♯ 2 ⊠ var 1
 abbrev quotient : Code
 quotient = twice ⊘ unit
 
+abbrev less : Code
+less = quotient ⊟ ♯ 1
+
 module _ (c : lts.Start reads.Pre reads.Post) where
   ρ : Within (c .args .num ∷ c .args .den ∷ []) (2 ^ 61 ∷ 2 ^ 38 ∷ [])
   ρ = c .pre .1 ▹ c .pre .2 ▹ ∅
@@ -26,7 +29,7 @@ module _ (c : lts.Start reads.Pre reads.Post) where
 returns : tie.Need-returns
 returns c =
     let s = c .before in
-    result (ρ s) w64 (quotient ⊟ ♯ 1) tt ∙ less-nearest (s .args .num) (s .args .den) (s .pre .0) (if-lt (ρ s) w64 (twice ⊜ unit) (♯ 0) tt (c .if1 .taken))
+    result (ρ s) w64 less tt ∙ less-nearest (s .args .num) (s .args .den) (s .pre .0) (if-lt (ρ s) w64 (twice ⊜ unit) (♯ 0) tt (c .if1 .taken))
 
 returns-2 : tie.Need-returns-2
 returns-2 c =
@@ -43,6 +46,6 @@ nearest-spec = tie.close (tie.spec
     (λ c. fits (ρ c) w64 unit tt)
     div-quotient
     div-quotient
-    (λ c. fits (ρ (c .before)) w64 (quotient ⊟ ♯ 1) tt)
+    (λ c. fits (ρ (c .before)) w64 less tt)
     returns
     returns-2)

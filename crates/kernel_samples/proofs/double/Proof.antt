@@ -1,4 +1,4 @@
--- `fraction::double` meets its contract. The cast asks nothing: every i32 is a float of this format.
+-- `double` meets its contract. The cast asks nothing: every i32 is a float of this format.
 use lib.Count.{trailingZeros}
 use lib.Ieee.{binary64, ofBits, ofFields, odd}
 use Rattle.kernel_samples.proofs.Quotient.{divides-exactly}

@@ -1,4 +1,4 @@
--- `fraction::frame` meets its contract.
+-- `frame` meets its contract.
 use mathlib.Core.Path.{_∙_, ap}
 use lib.Ieee.{binary32}
 use mir.Facts.{toZ-ofZ}

@@ -1,4 +1,4 @@
--- `fraction::single` meets its contract.
+-- `single` meets its contract.
 use lib.Count.{trailingZeros}
 use lib.Ieee.{binary32, ofBits, ofFields, odd}
 use Rattle.kernel_samples.proofs.Quotient.{casts-exactly, divides-exactly}

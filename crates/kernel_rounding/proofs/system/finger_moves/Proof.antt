@@ -10,10 +10,9 @@ use Rattle.integers.specs.Machine.{Code, var, nat, ♯_, _⊞_, _⊟_, _⊠_, c
 use Rattle.model.specs.System.{System, det}
 use Rattle.model.specs.Step.{fingerSystem}
 use Rattle.model.specs.Ranges.{displacementOk, contactOk, forceOk}
-use Rattle.model.specs.Setup.{setupRules}
 use Rattle.model.specs.declared.Setup.{Setup}
 use Rattle.model.specs.declared.Finger.{Finger}
-use Rattle.laws.specs.Accepted.{SetupFacts, sound}
+use Rattle.laws.specs.Accepted.{SetupFacts, setup-facts}
 use Rattle.laws.specs.Moves.{regular-system}
 use Rattle.laws.specs.Sizes.{inside-within}
 use Rattle.kernel_rounding.proofs.system.Same.{same-system}
@@ -34,8 +33,8 @@ square = var 2 ⊠ var 2
 abbrev pull : Code
 pull = ♯ 2 ⊠ var 2 ⊠ cast w32 (var 6)
 
-abbrev rise : Code
-rise = cast w32 (var 4) ⊟ cast w32 (var 5)
+abbrev change : Code
+change = cast w32 (var 4) ⊟ cast w32 (var 5)
 
 abbrev c₁₁ : Code
 c₁₁ = var 0 ⊞ done square
@@ -50,7 +49,7 @@ abbrev c₁ : Code
 c₁ = var 1 ⊟ done pull
 
 abbrev c₂ : Code
-c₂ = ♯ 2 ⊠ nat 3 ⊠ done rise ⊞ cast w32 (var 7) ⊞ done pull
+c₂ = ♯ 2 ⊠ nat 3 ⊠ done change ⊞ cast w32 (var 7) ⊞ done pull
 
 abbrev Read : Type 0
 Read = lts.After-struct-told3 (solve-reads.Asked, solve-reads.Learnt) reads.Pre reads.Post
@@ -69,8 +68,7 @@ module _ (c : Read) where
   numbers = start c .args .factor ∷ start c .args .side ∷ start c .args .gradient ∷ pos (s .finger .mass) ∷ finger .newer ∷ finger .older ∷ finger .contact ∷ start c .args .force ∷ []
 
   facts : SetupFacts s
-  unfolding setupRules
-  facts = sound s [] (start c .pre .0)
+  facts = setup-facts s (start c .pre .0)
 
   ρ : Within numbers sizes
   unfolding displacementOk contactOk forceOk
@@ -111,5 +109,5 @@ returns c = c .solve .ensures ∙ ap rounded (same (c .before))
 
 pub finger-moves-spec : {M : Type 1} → statement M
 finger-moves-spec =
-    tie.close (answer ρ w64 c₂ tt (answer ρ w64 c₁ tt (answer ρ w64 c₂₂ tt (answer ρ w64 c₁₂ tt (answer ρ w64 c₁₂ tt (answer ρ w64 c₁₁ tt (answer ρ w64 rise tt (answer ρ w64 pull tt (answer ρ w64 square tt tie.spec))))))))
+    tie.close (answer ρ w64 c₂ tt (answer ρ w64 c₁ tt (answer ρ w64 c₂₂ tt (answer ρ w64 c₁₂ tt (answer ρ w64 c₁₂ tt (answer ρ w64 c₁₁ tt (answer ρ w64 change tt (answer ρ w64 pull tt (answer ρ w64 square tt tie.spec))))))))
     (λ c κs. solvable c) returns)

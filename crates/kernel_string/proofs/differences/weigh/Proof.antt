@@ -8,7 +8,7 @@ use Rattle.integers.specs.Size.{natural}
 use Rattle.integers.specs.Machine.{Code, var, nat, ♯_, _⊞_, _⊟_, _⊠_, cast, done, Within, ∅, _▹_, result, answer}
 use Rattle.model.specs.Ranges.{displacementOk}
 use Rattle.laws.specs.Sizes.{inside-within}
-use Rattle.kernel_string.proofs.InRange.{setup-facts}
+use Rattle.laws.specs.Accepted.{setup-facts}
 use Rattle.kernel_string.proofs.differences.weigh.Statement.{statement}
 use Rattle.kernel_string.proofs.differences.weigh.Tie as tie
 use Rattle.kernel_string.proofs.differences.weigh.Reads as reads

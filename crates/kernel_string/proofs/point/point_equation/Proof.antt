@@ -88,13 +88,13 @@ module _ (c : lts.Start Learnt reads.Pre reads.Post) where
   in-weighted : i < length (weighted s u v)
   in-weighted = rw (spans-weighted s (newer-spans ranges) (older-spans ranges) .long) (c .pre .6)
 
-  rise-size : at (minus u v) (suc i) within 2097152
-  rise-size = rw (at-minus (newer-spans ranges) (older-spans ranges) (suc i)) (displacement-size u (ranges .newer) (suc i) ⟨-⟩ displacement-size v (ranges .older) (suc i))
+  change-size : at (minus u v) (suc i) within 2097152
+  change-size = rw (at-minus (newer-spans ranges) (older-spans ranges) (suc i)) (displacement-size u (ranges .newer) (suc i) ⟨-⟩ displacement-size v (ranges .older) (suc i))
 
   -- what `point_side` is given, before it is read from its bits
   ρ : Within (at (D1 (weighted s u v)) (suc i) ∷ at (minus u v) (suc i) ∷ g ∷ getD ψ i (pos 0) ∷ c .args .force ∷ []) sideSizes
   unfolding forceOk
-  ρ = D1-bounded (weighted s u v) (weighted-size ranges) (suc i) ▹ rise-size ▹ c .pre .4 ▹ contact-size ψ (c .pre .3) (suc i) ▹ inside-within 1073741824 (c .args .force) (c .pre .5) ▹ ∅
+  ρ = D1-bounded (weighted s u v) (weighted-size ranges) (suc i) ▹ change-size ▹ c .pre .4 ▹ contact-size ψ (c .pre .3) (suc i) ▹ inside-within 1073741824 (c .args .force) (c .pre .5) ▹ ∅
 
   read-gradient : toZ w64 (ofZ w64 g) ≡ g
   read-gradient = result ρ w64 (var 2) tt
@@ -119,23 +119,23 @@ module _ (c : lts.After-difference Learnt reads.Pre reads.Post) where
   terms-size : toZ w64 (ofZ w64 (c .before .d1 .result)) within 12 * 2 ^ 32
   terms-size = rw terms-are (entry (ρ a) 0)
 
-  rise-is : toZ w64 (ofZ w64 (c .difference .result)) ≡ at (minus (u a) (v a)) (suc (i a))
-  rise-is = toZ-ofZ (record { sfits = c .difference .ok }) ∙ c .difference .ensures
+  change-is : toZ w64 (ofZ w64 (c .difference .result)) ≡ at (minus (u a) (v a)) (suc (i a))
+  change-is = toZ-ofZ (record { sfits = c .difference .ok }) ∙ c .difference .ensures
 
-  rise-within : toZ w64 (ofZ w64 (c .difference .result)) within 2097152
-  rise-within = rw rise-is (rise-size a)
+  change-within : toZ w64 (ofZ w64 (c .difference .result)) within 2097152
+  change-within = rw change-is (change-size a)
 
 point-side-requires : tie.Need-point-side-requires
 point-side-requires c κs =
     let r = ρ (a (c .before)) in
-    terms-size (c .before) ▹ rise-within (c .before) ▹ held-within r w64 (var 2) tt ▹ held-within r w32 (var 3) tt ▹ held-within r w32 (var 4) tt ▹ ∅
+    terms-size (c .before) ▹ change-within (c .before) ▹ held-within r w64 (var 2) tt ▹ held-within r w32 (var 3) tt ▹ held-within r w32 (var 4) tt ▹ ∅
 
 side-is : (c : lts.After-point-side Learnt reads.Pre reads.Post) → (let b = a (c .before .before) in toZ w64 (ofZ w64 (c .point-side .result)) ≡ rightSide (s b) (u b) (v b) (g b) (at (ψ b) (suc (i b))) (b .args .force) (suc (i b)))
 side-is c =
     let d = c .before .before in
     let r = ρ (a d) in
     toZ-ofZ (record { sfits = c .point-side .ok })
-    ∙ (rw (terms-are d, rise-is d, result r w64 (var 2) tt, result r w32 (var 3) tt, result r w32 (var 4) tt) at (c .point-side .ensures))
+    ∙ (rw (terms-are d, change-is d, result r w64 (var 2) tt, result r w32 (var 3) tt, result r w32 (var 4) tt) at (c .point-side .ensures))
     ∙ side (a d)
 
 returns : tie.Need-returns

@@ -4,7 +4,7 @@ use lib.IntN.{pos}
 use mir.Syntax.{w64}
 use Rattle.integers.specs.Size.{natural}
 use Rattle.integers.specs.Machine.{Code, var, nat, ♯_, _⊞_, _⊠_, Within, ∅, _▹_, result, answer}
-use Rattle.kernel_string.proofs.InRange.{setup-facts}
+use Rattle.laws.specs.Accepted.{setup-facts}
 use Rattle.kernel_string.proofs.point.point_factor.Statement.{statement}
 use Rattle.kernel_string.proofs.point.point_factor.Tie as tie
 use Rattle.kernel_string.proofs.point.point_factor.Reads as reads

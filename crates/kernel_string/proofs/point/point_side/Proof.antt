@@ -11,7 +11,7 @@ use Rattle.kernel_string.proofs.point.point_side.Lts as lts
 abbrev body : Code
 body = ♯ 8192 ⊠ var 1 ⊞ var 0 ⊞ ♯ 2 ⊠ var 2 ⊠ cast w32 (var 3) ⊞ cast w32 (var 4)
 
-ρ : (c : lts.Start reads.Pre reads.Post) → (let a = c .args in Within (a .terms ∷ a .rise ∷ a .gradient ∷ a .contact ∷ a .force ∷ []) sideSizes)
+ρ : (c : lts.Start reads.Pre reads.Post) → (let a = c .args in Within (a .terms ∷ a .change ∷ a .gradient ∷ a .contact ∷ a .force ∷ []) sideSizes)
 ρ c = c .pre
 
 returns : tie.Need-returns
