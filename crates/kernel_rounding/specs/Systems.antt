@@ -1,11 +1,11 @@
 -- A two-by-two system held in arrays, and the sizes that the system of a step has.
 use mathlib.Core.List.{List, [], _∷_}
-use Prim.Native.Nat.{_^_}
+use Prim.Native.Nat.{ℕ, _^_}
 use lib.Dec.{T}
 use lib.IntN.{ℤ, pos}
 use lib.ListN.{getD}
 use lib.Signed.{_<ℤ_}
-use Rattle.integers.specs.Size.{_within_}
+use Rattle.integers.specs.Machine.{Within}
 use Rattle.model.specs.Ranges.{displacementOk, contactOk}
 use Rattle.model.specs.System.{System, det, rounded₁, rounded₂}
 use Rattle.model.specs.declared.Finger.{Finger}
@@ -28,15 +28,17 @@ systemOf matrix right =
 abbrev pub rounded : System → List ℤ
 rounded t = rounded₁ t ∷ rounded₂ t ∷ []
 
--- one solution, and numbers within what 01's ranges make of A + g², g² and m + g², and of the right sides, rounded up
+-- the entries, and what 01's ranges keep them within: A + g², g², g², m + g², and the two right sides, rounded up
+abbrev pub entries : System → List ℤ
+entries t = t .a₁₁ ∷ t .a₁₂ ∷ t .a₂₁ ∷ t .a₂₂ ∷ t .b₁ ∷ t .b₂ ∷ []
+
+abbrev pub systemSizes : List ℕ
+systemSizes = 138242 ∷ 65025 ∷ 65025 ∷ 1113601 ∷ 2 ^ 38 ∷ 2 ^ 43 ∷ []
+
+-- a system of that size with one solution
 pub record Solvable (t : System) : Type 0 where
   pub regular : pos 0 <ℤ det t
-  pub a₁₁ : t .a₁₁ within 138242
-  pub a₁₂ : t .a₁₂ within 65025
-  pub a₂₁ : t .a₂₁ within 65025
-  pub a₂₂ : t .a₂₂ within 1113601
-  pub b₁ : t .b₁ within 2 ^ 38
-  pub b₂ : t .b₂ within 2 ^ 43
+  pub sizes : Within (entries t) systemSizes
 
 -- a finger that passes 11
 pub record FingerRanges (finger : Finger) : Type 0 where

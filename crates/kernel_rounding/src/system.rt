@@ -40,7 +40,7 @@ pub fn solve(matrix: [[i64; 2]; 2], right: [i64; 2]) -> [i64; 2]
     )
 }
 
-// The finger's moves: δ at p and δw, where the point's equation is factor·δ = side without the finger.
+// The finger's moves: δ at p and δw, where the point's equation is factor·δ = side without the finger. 73,217 is the largest A, 4096 + 4096 + 255².
 pub fn finger_moves(
     setup: Setup,
     finger: Finger,

@@ -4,6 +4,7 @@ ghost use lib.Dec.{T};
 ghost use lib.Ieee.{binary32, binary64};
 ghost use Rattle.model.specs.Ranges.{displacementOk};
 ghost use Rattle.model.specs.Fraction.{fraction, Holds};
+ghost use Rattle.model.specs.Step.{frameOf};
 use model::Frame;
 
 // x / 1,048,576 in single precision.
@@ -25,7 +26,7 @@ pub fn double(x: i32) -> f64
 // A pickup frame of the new displacements at bridge and neck.
 pub fn frame(bridge: i32, neck: i32) -> Frame
     requires { ⌜ T (displacementOk bridge) × T (displacementOk neck) ⌝ }
-    ensures { λ r. ⌜ r ≡ record { bridge = fraction binary32 bridge; neck = fraction binary32 neck } ⌝ }
+    ensures { λ r. ⌜ r ≡ frameOf bridge neck ⌝ }
 {
     Frame {
         bridge: single(bridge),

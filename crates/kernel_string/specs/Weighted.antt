@@ -28,6 +28,10 @@ pub record StringRanges (s : Setup) (u v : List ℤ) : Type 0 where
   pub newer : T (all displacementOk u)
   pub older : T (all displacementOk v)
 
--- the sizes of what a point's c is made of: string terms, newer − older displacement, gradient, contact variable, force
+-- what 01's ranges keep the weighted string within
+abbrev pub weightedSize : ℕ
+weightedSize = 3 * 2 ^ 32
+
+-- and what a point's c is made of: string terms, newer − older displacement, gradient, contact variable, force
 abbrev pub sideSizes : List ℕ
-sideSizes = 12 * 2 ^ 32 ∷ 2097152 ∷ 255 ∷ 67108864 ∷ 1073741824 ∷ []
+sideSizes = 4 * weightedSize ∷ 2097152 ∷ 255 ∷ 67108864 ∷ 1073741824 ∷ []

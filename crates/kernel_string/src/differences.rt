@@ -1,7 +1,7 @@
 // 01, 'Differences', at a point: index i of a slice is place i + 1. The string terms of c are D1 of one string, the weighted string, with 0 at both ends.
 ghost use mathlib.Core.Path.{_≡_};
 ghost use mathlib.Core.List.{List};
-ghost use Prim.Native.Nat.{ℕ, suc, _*_, _^_, _<_};
+ghost use Prim.Native.Nat.{ℕ, suc, _<_};
 ghost use lib.Dec.{T};
 ghost use lib.IntN.{ℤ, pos, _+ℤ_, _-ℤ_, _*ℤ_};
 ghost use lib.ListN.{length, getD};
@@ -11,7 +11,7 @@ ghost use Rattle.model.specs.Setup.{setupRules};
 ghost use Rattle.model.specs.Differences.{at, minus, D1};
 ghost use Rattle.promises.specs.Promises.{Passed};
 ghost use Rattle.kernel_string.specs.Weighted;
-ghost use Rattle.kernel_string.specs.Weighted.{placed, StringRanges};
+ghost use Rattle.kernel_string.specs.Weighted.{placed, StringRanges, weightedSize};
 use model::Setup;
 
 // The difference of two strings at a point.
@@ -26,7 +26,7 @@ pub fn difference(newer: &[i32], older: &[i32], i: usize) -> i64
 
 // D1 at a point of the string that an array holds by place: left neighbour − 2·own + right neighbour.
 pub fn d1(string: &[i64; 129], i: usize) -> i64
-    requires { ⌜ ((k : ℕ) → getD (now string) k (pos 0) within 3 * 2 ^ 32) × (i < 127) ⌝ }
+    requires { ⌜ ((k : ℕ) → getD (now string) k (pos 0) within weightedSize) × (i < 127) ⌝ }
     ensures { λ r. ⌜ ((t : List ℤ) → now (string .entry) ≡ placed t → i < length t → r ≡ at (D1 t) (suc i)) ⌝ }
 {
     let left = string[i];

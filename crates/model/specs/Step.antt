@@ -141,9 +141,13 @@ stepRules s neck x F = callRules s neck x F ++ resultRules (nextState (workedSte
 
 -- ---- the call
 
+-- a pickup frame, of the displacements at bridge and neck
+abbrev pub frameOf : ℤ → ℤ → Frame
+frameOf bridge neck = record { bridge = fraction binary32 bridge; neck = fraction binary32 neck }
+
 -- the pickup frame of a step that led to the state x
 unfoldable pub frame : Setup → State → Frame
-frame s x = record { bridge = fraction binary32 (at (x .newer) (s .«bridge_place»)); neck = fraction binary32 (at (x .newer) (s .«neck_place»)) }
+frame s x = frameOf (at (x .newer) (s .«bridge_place»)) (at (x .newer) (s .«neck_place»))
 
 -- the frame or the number, and the lent buffers, turn and finger after the call
 pub record StepResult : Type 0 where

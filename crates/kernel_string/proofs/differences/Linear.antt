@@ -2,7 +2,7 @@
 use mathlib.Core.Path.{_≡_, refl, sym, _∙_, ap₂}
 use mathlib.Core.List.{List}
 use mathlib.Core.Logic.{⊎-elim}
-use Prim.Native.Nat.{ℕ, zero, suc, _*_, _^_, _≤_, _<_}
+use Prim.Native.Nat.{ℕ, zero, suc, _≤_, _<_}
 use native.Mathlib.Nat.{eq-or-lt-of-le, le-of-suc-le-suc, le-of-eq, le-trans}
 use native.Mathlib.Decide.{decLt}
 use native.Mathlib.Omega.{arith}
@@ -16,7 +16,7 @@ use Rattle.model.specs.Setup.{L, M, S, points}
 use Rattle.model.specs.Differences.{at, minus, D1, D2}
 use Rattle.model.specs.declared.Setup.{Setup}
 use Rattle.laws.specs.Strings.{_spans_, at-past, at-D1, spans-D1, at-minus, spans-minus}
-use Rattle.kernel_string.specs.Weighted.{weighted, StringRanges}
+use Rattle.kernel_string.specs.Weighted.{weighted, StringRanges, weightedSize}
 use Rattle.kernel_string.proofs.InRange.{displacement-size, facts, newer-spans, older-spans}
 
 module _ (s : Setup) {u v : List ℤ} {n : ℕ} (hu : u spans n) (hv : v spans n) where
@@ -76,7 +76,7 @@ module _ (s : Setup) {u v : List ℤ} {n : ℕ} (hu : u spans n) (hv : v spans n
       parts p q r = cc
 
 -- how large it is where the displacements are in range
-pub weighted-size : {s : Setup} {u v : List ℤ} → StringRanges s u v → (i : ℕ) → at (weighted s u v) i within 3 * 2 ^ 32
+pub weighted-size : {s : Setup} {u v : List ℤ} → StringRanges s u v → (i : ℕ) → at (weighted s u v) i within weightedSize
 weighted-size {s} {u} {v} h zero = wide (num 0) tt
 weighted-size {s} {u} {v} h (suc k) = go (decLt k (points s))
   where
@@ -86,7 +86,7 @@ weighted-size {s} {u} {v} h (suc k) = go (decLt k (points s))
     y : (i : ℕ) → at v i within 1048576
     y = displacement-size v (h .older)
 
-    go : Dec (k < points s) → at (weighted s u v) (suc k) within 3 * 2 ^ 32
+    go : Dec (k < points s) → at (weighted s u v) (suc k) within weightedSize
     go (yes l) = rw (weighted-point s (newer-spans h) (older-spans h) k l)
         (natural (facts h .tension) ⟨*⟩ x (suc k) ⟨-⟩ natural (facts h .stiffness) ⟨*⟩ (x k ⟨-⟩ num 2 ⟨*⟩ x (suc k) ⟨+⟩ x (suc (suc k))) ⟨+⟩ natural (facts h .viscous) ⟨*⟩ (x (suc k) ⟨-⟩ y (suc k)))
     go (no l) = rw (weighted-past s (newer-spans h) (older-spans h) (suc k) (omega arith)) (wide (num 0) tt)

@@ -1,28 +1,22 @@
 -- `system::by_determinants` meets its contract.
 use mathlib.Core.Path.{_≡_, _∙_, ap₂}
-use mathlib.Core.List.{List, [], _∷_}
-use Prim.Native.Nat.{ℕ, _^_}
+use mathlib.Core.List.{[], _∷_}
+use Prim.Native.Nat.{_^_}
 use lib.Dec.{T}
 use lib.IntN.{ℤ, pos}
 use lib.Signed.{_<ℤ_}
 use mir.Syntax.{w64}
 use mir.Facts.{toZ-ofZ}
 use Rattle.integers.specs.Size.{_within_, wide}
-use Rattle.integers.specs.Machine.{Code, var, _⊟_, _⊠_, Within, ∅, _▹_, value, held, safe, result, held-within, answer}
+use Rattle.integers.specs.Machine.{Code, var, _⊟_, _⊠_, value, held, safe, result, held-within, answer}
 use Rattle.model.specs.System.{System, det, rounded₁, rounded₂}
 use Rattle.model.specs.Rounding.{nearest}
-use Rattle.kernel_rounding.specs.Systems.{Solvable}
+use Rattle.kernel_rounding.specs.Systems.{entries, systemSizes, Solvable}
 use Rattle.kernel_rounding.proofs.system.by_determinants.Statement.{statement}
 use Rattle.kernel_rounding.proofs.system.by_determinants.Tie as tie
 use Rattle.kernel_rounding.proofs.system.by_determinants.Reads as reads
 use Rattle.kernel_rounding.proofs.system.by_determinants.Lts as lts
 use Rattle.kernel_rounding.proofs.nearest.Reads as nearest-reads
-
-abbrev entries : System → List ℤ
-entries t = t .a₁₁ ∷ t .a₁₂ ∷ t .a₂₁ ∷ t .a₂₂ ∷ t .b₁ ∷ t .b₂ ∷ []
-
-abbrev sizes : List ℕ
-sizes = 138242 ∷ 65025 ∷ 65025 ∷ 1113601 ∷ 2 ^ 38 ∷ 2 ^ 43 ∷ []
 
 -- the determinant and the two numerators, as the code works them out
 abbrev d : Code
@@ -35,16 +29,13 @@ abbrev d₂ : Code
 d₂ = var 0 ⊠ var 5 ⊟ var 4 ⊠ var 2
 
 module _ {t : System} (h : Solvable t) where
-  ρ : Within (entries t) sizes
-  ρ = h .a₁₁ ▹ h .a₁₂ ▹ h .a₂₁ ▹ h .a₂₂ ▹ h .b₁ ▹ h .b₂ ▹ ∅
-
   -- what `nearest` asks of a numerator
   asked : (n : Code) → held (entries t) w64 n within 2 ^ 61 → (pos 0 <ℤ held (entries t) w64 d) × (held (entries t) w64 n within 2 ^ 61) × (held (entries t) w64 d within 2 ^ 38)
-  asked n k = (rw (result ρ w64 d tt) (h .regular), k, wide (held-within ρ w64 d tt) tt)
+  asked n k = (rw (result (h .sizes) w64 d tt) (h .regular), k, wide (held-within (h .sizes) w64 d tt) tt)
 
   -- and what it gives
-  rounds : (n : Code) → T (safe sizes sizes w64 n) → {r : ℤ} → r ≡ nearest (held (entries t) w64 n) (held (entries t) w64 d) → r ≡ nearest (value (entries t) n) (det t)
-  rounds n s e = e ∙ ap₂ nearest (result ρ w64 n s) (result ρ w64 d tt)
+  rounds : (n : Code) → T (safe systemSizes systemSizes w64 n) → {r : ℤ} → r ≡ nearest (held (entries t) w64 n) (held (entries t) w64 d) → r ≡ nearest (value (entries t) n) (det t)
+  rounds n s e = e ∙ ap₂ nearest (result (h .sizes) w64 n s) (result (h .sizes) w64 d tt)
 
 abbrev Learnt : lts.Claims
 Learnt = (nearest-reads.Asked, nearest-reads.Learnt)
@@ -64,11 +55,11 @@ returns c =
     (toZ-ofZ (record { sfits = c .nearest2 .ok }) ∙ rounds h d₂ tt (c .nearest2 .ensures))
 
 nearest-requires : tie.Need-nearest-requires
-nearest-requires c κs = let h = solvable c in asked h d₁ (wide (held-within (ρ h) w64 d₁ tt) tt)
+nearest-requires c κs = let h = solvable c in asked h d₁ (wide (held-within (h .sizes) w64 d₁ tt) tt)
 
 nearest-requires-2 : tie.Need-nearest-requires-2
-nearest-requires-2 c κs = let h = solvable (c .before) in asked h d₂ (wide (held-within (ρ h) w64 d₂ tt) tt)
+nearest-requires-2 c κs = let h = solvable (c .before) in asked h d₂ (wide (held-within (h .sizes) w64 d₂ tt) tt)
 
 pub by-determinants-spec : {M : Type 1} → statement M
-by-determinants-spec = tie.close (answer (λ c. ρ (solvable c)) w64 d₂ tt (answer (λ c. ρ (solvable c)) w64 d₁ tt (answer (λ c. ρ (solvable c)) w64 d tt tie.spec))
+by-determinants-spec = tie.close (answer (λ c. solvable c .sizes) w64 d₂ tt (answer (λ c. solvable c .sizes) w64 d₁ tt (answer (λ c. solvable c .sizes) w64 d tt tie.spec))
     nearest-requires nearest-requires-2 returns)

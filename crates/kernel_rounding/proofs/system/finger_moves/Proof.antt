@@ -5,7 +5,7 @@ use Prim.Native.Nat.{ℕ, _^_}
 use lib.IntN.{ℤ, pos, negℤ, +ℤ-idl, _*ℤ_}
 use lib.Signed.{_<ℤ_}
 use mir.Syntax.{w32, w64}
-use Rattle.integers.specs.Size.{natural, wide}
+use Rattle.integers.specs.Size.{_within_, natural, wide}
 use Rattle.integers.specs.Machine.{Code, var, nat, ♯_, _⊞_, _⊟_, _⊠_, cast, done, Within, ∅, _▹_, held, result, held-within, answer}
 use Rattle.model.specs.System.{System, det}
 use Rattle.model.specs.Step.{fingerSystem}
@@ -96,12 +96,10 @@ module _ (c : Read) where
   solvable : Solvable passed
   solvable = record {
     regular = subst (λ (t : System). pos 0 <ℤ det t) (sym same) (regular-system s finger (start c .args .side) (start c .args .gradient) (start c .args .force) (start c .pre .2) (facts .mass-low));
-    a₁₁ = held-within ρ w64 c₁₁ tt;
-    a₁₂ = held-within ρ w64 c₁₂ tt;
-    a₂₁ = held-within ρ w64 c₁₂ tt;
-    a₂₂ = held-within ρ w64 c₂₂ tt;
-    b₁ = wide (held-within ρ w64 c₁ tt) tt;
-    b₂ = wide (held-within ρ w64 c₂ tt) tt;
+    sizes =
+        let b₁ : held numbers w64 c₁ within 2 ^ 38 = wide (held-within ρ w64 c₁ tt) tt in
+        let b₂ : held numbers w64 c₂ within 2 ^ 43 = wide (held-within ρ w64 c₂ tt) tt in
+        held-within ρ w64 c₁₁ tt ▹ held-within ρ w64 c₁₂ tt ▹ held-within ρ w64 c₁₂ tt ▹ held-within ρ w64 c₂₂ tt ▹ b₁ ▹ b₂ ▹ ∅;
   }
 
 returns : tie.Need-returns

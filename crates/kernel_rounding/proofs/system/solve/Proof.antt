@@ -4,7 +4,7 @@ use lib.Dec.{lit<}
 use lib.IntN.{ℤ}
 use mir.Syntax.{w64}
 use mir.Val.{toZ, ofZ}
-use Rattle.integers.specs.Bits.{back}
+use Rattle.integers.specs.Machine.{var, result}
 use Rattle.model.specs.System.{System}
 use Rattle.kernel_rounding.specs.Systems.{rounded, Solvable}
 use Rattle.kernel_rounding.proofs.system.Same.{same-system}
@@ -15,7 +15,7 @@ abbrev read : ℤ → ℤ
 read x = toZ w64 (ofZ w64 x)
 
 same : {t : System} → Solvable t → _≡_ {A = System} (record { a₁₁ = read (t .a₁₁); a₁₂ = read (t .a₁₂); a₂₁ = read (t .a₂₁); a₂₂ = read (t .a₂₂); b₁ = read (t .b₁); b₂ = read (t .b₂) }) t
-same h = same-system (back w64 (h .a₁₁) (lit< tt)) (back w64 (h .a₁₂) (lit< tt)) (back w64 (h .a₂₁) (lit< tt)) (back w64 (h .a₂₂) (lit< tt)) (back w64 (h .b₁) (lit< tt)) (back w64 (h .b₂) (lit< tt))
+same h = let ρ = h .sizes in same-system (result ρ w64 (var 0) tt) (result ρ w64 (var 1) tt) (result ρ w64 (var 2) tt) (result ρ w64 (var 3) tt) (result ρ w64 (var 4) tt) (result ρ w64 (var 5) tt)
 
 returns : tie.Need-returns
 returns c = c .by-determinants .ensures ∙ ap rounded (same (c .before .before .before .before .before .before .before .pre))

@@ -1,7 +1,7 @@
 -- `differences::d1` meets its contract.
 use mathlib.Core.Path.{_≡_, refl, sym, _∙_}
 use mathlib.Core.List.{List, [], _∷_}
-use Prim.Native.Nat.{ℕ, suc, _+_, _*_, _^_, _<_}
+use Prim.Native.Nat.{ℕ, suc, _+_, _<_}
 use native.Mathlib.Numerals.{add-one, add-two}
 use native.Mathlib.Omega.{arith}
 use lib.IntN.{ℤ, pos, _+ℤ_, _-ℤ_, _*ℤ_}
@@ -11,7 +11,7 @@ use Rattle.integers.specs.Filled.{getD-tabulate}
 use Rattle.integers.specs.Machine.{Code, var, ♯_, _⊞_, _⊟_, _⊠_, Within, ∅, _▹_, result, answer}
 use Rattle.model.specs.Differences.{at, D1}
 use Rattle.laws.specs.Strings.{at-D1}
-use Rattle.kernel_string.specs.Weighted.{placed}
+use Rattle.kernel_string.specs.Weighted.{placed, weightedSize}
 use Rattle.kernel_string.proofs.differences.d1.Statement.{statement}
 use Rattle.kernel_string.proofs.differences.d1.Tie as tie
 use Rattle.kernel_string.proofs.differences.d1.Reads as reads
@@ -20,7 +20,7 @@ use Rattle.kernel_string.proofs.differences.d1.Lts as lts
 abbrev body : Code
 body = var 0 ⊟ ♯ 2 ⊠ var 1 ⊞ var 2
 
-ρ : (c : lts.After-right reads.Pre reads.Post) → (let a = c .before .before .before .args in Within (getD (a .string .now) (a .i) (pos 0) ∷ getD (a .string .now) (a .i + 1) (pos 0) ∷ getD (a .string .now) (a .i + 2) (pos 0) ∷ []) (3 * 2 ^ 32 ∷ 3 * 2 ^ 32 ∷ 3 * 2 ^ 32 ∷ []))
+ρ : (c : lts.After-right reads.Pre reads.Post) → (let a = c .before .before .before .args in Within (getD (a .string .now) (a .i) (pos 0) ∷ getD (a .string .now) (a .i + 1) (pos 0) ∷ getD (a .string .now) (a .i + 2) (pos 0) ∷ []) (weightedSize ∷ weightedSize ∷ weightedSize ∷ []))
 ρ c = let s = c .before .before .before in s .pre .0 (s .args .i) ▹ s .pre .0 (s .args .i + 1) ▹ s .pre .0 (s .args .i + 2) ▹ ∅
 
 -- of a string that the array holds by place

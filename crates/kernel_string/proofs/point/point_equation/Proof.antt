@@ -1,7 +1,7 @@
 -- `point::point_equation` meets its contract.
 use mathlib.Core.Path.{_≡_, sym, _∙_, ap}
 use mathlib.Core.List.{List, [], _∷_}
-use Prim.Native.Nat.{ℕ, suc, _*_, _^_, _<_}
+use Prim.Native.Nat.{ℕ, suc, _*_, _<_}
 use native.Mathlib.Decide.{decLt}
 use native.Mathlib.Omega.{arith}
 use lib.IntN.{ℤ, pos, _+ℤ_, _-ℤ_, _*ℤ_}
@@ -20,7 +20,7 @@ use Rattle.model.specs.Step.{factor, rightSide}
 use Rattle.model.specs.declared.Setup.{Setup}
 use Rattle.laws.specs.Sizes.{inside-within, D1-bounded}
 use Rattle.laws.specs.Strings.{at-minus}
-use Rattle.kernel_string.specs.Weighted.{weighted, placed, StringRanges, sideSizes}
+use Rattle.kernel_string.specs.Weighted.{weighted, placed, StringRanges, weightedSize, sideSizes}
 use Rattle.kernel_string.proofs.InRange.{displacement-size, contact-size, newer-spans, older-spans, most-points}
 use Rattle.kernel_string.proofs.differences.Linear.{spans-weighted, weighted-size, weighted-linear}
 use Rattle.kernel_string.proofs.point.point_equation.Statement.{statement}
@@ -71,11 +71,11 @@ module _ (c : lts.Start Learnt reads.Pre reads.Post) where
   unfolding placed
   placed-entry k l = ap (λ x. getD x k (pos 0)) (c .pre .1) ∙ getD-tabulate 129 (at (weighted s u v)) (pos 0) k l
 
-  entry-size : (k : ℕ) → getD t k (pos 0) within 3 * 2 ^ 32
+  entry-size : (k : ℕ) → getD t k (pos 0) within weightedSize
   unfolding placed
   entry-size k = go (decLt k 129)
     where
-      go : Dec (k < 129) → getD t k (pos 0) within 3 * 2 ^ 32
+      go : Dec (k < 129) → getD t k (pos 0) within weightedSize
       go (yes l) = rw (placed-entry k l) (weighted-size ranges k)
       go (no l) = rw (List·getD-eq-default t (pos 0) {n = k} (omega (arith, ap length (c .pre .1) ∙ length-tabulate 129 (at (weighted s u v))))) (wide (num 0) tt)
 
@@ -116,7 +116,7 @@ module _ (c : lts.After-difference Learnt reads.Pre reads.Post) where
   terms-are : toZ w64 (ofZ w64 (c .before .d1 .result)) ≡ at (D1 (weighted (s a) (u a) (v a))) (suc (i a))
   terms-are = toZ-ofZ (record { sfits = c .before .d1 .ok }) ∙ c .before .d1 .ensures (weighted (s a) (u a) (v a)) (a .pre .1) (in-weighted a)
 
-  terms-size : toZ w64 (ofZ w64 (c .before .d1 .result)) within 12 * 2 ^ 32
+  terms-size : toZ w64 (ofZ w64 (c .before .d1 .result)) within 4 * weightedSize
   terms-size = rw terms-are (entry (ρ a) 0)
 
   change-is : toZ w64 (ofZ w64 (c .difference .result)) ≡ at (minus (u a) (v a)) (suc (i a))
