@@ -1,4 +1,4 @@
--- Whole numbers: the ring and its solver, order, size, tests, machine words and signed code, sums; lists that loops fill; exact floats.
+-- Whole numbers: the ring and its solver, order, size, tests, machine words and signed code, sums; lists that loops fill and scan; exact floats.
 pub mod Ring
 pub mod Solve
 pub mod Order
@@ -11,5 +11,6 @@ pub mod Code
 pub mod Machine
 pub mod Sum
 pub mod Filled
+pub mod Scan
 pub mod Floats
 mod Examples

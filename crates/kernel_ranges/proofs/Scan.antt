@@ -1,5 +1,5 @@
--- A scan of a list that keeps one flag: the test of the whole list is the flag and the same test of what is left.
-use mathlib.Core.Path.{_≡_, refl, sym, _∙_, ap₂}
+-- Scans of lists in which every entry has to pass.
+use mathlib.Core.Path.{_≡_, refl, ap₂, _∙_}
 use mathlib.Core.Bool.{Bool, true, _&&_, and-assoc, and-true}
 use mathlib.Core.List.{List}
 use Prim.Native.Nat.{ℕ, _+_, _≤_, _<_}
@@ -10,45 +10,30 @@ use lib.Seq.{drop-cons}
 use mir.Syntax.{Width}
 use mir.Val.{SFits, toZ, ofZ}
 use mir.Facts.{toZ-ofZ}
+use Rattle.integers.specs.Scan.{Scanned, more, over}
 use Rattle.model.specs.Ranges.{all, inside}
 
--- the flag `ok` after i entries
-pub record Scanned {A : Type 0} (test : List A → Bool) (xs : List A) (ok : Bool) (i : ℕ) : Type 0 where
-  pub flag : test xs ≡ (ok && test (drop i xs))
+pub none : {A : Type 0} {test : List A → Bool} {xs : List A} → Scanned _&&_ test xs true 0
+none = record { whole = refl }
 
-module _ {A : Type 0} {test : List A → Bool} {xs : List A} where
-  pub none : Scanned test xs true 0
-  none = record { flag = refl }
-
-  module _ {ok : Bool} {i : ℕ} (s : Scanned test xs ok i) where
-    -- an entry more, of which the test says t
-    pub more : (t : Bool) → test (drop i xs) ≡ (t && test (drop (i + 1) xs)) → Scanned test xs (ok && t) (i + 1)
-    more t e = record { flag = s .flag ∙ rw e (sym (and-assoc ok t (test (drop (i + 1) xs)))) }
-
-    -- nothing left that could fail
-    pub over : test (drop i xs) ≡ true → ok ≡ test xs
-    over e = sym (s .flag ∙ rw e (and-true ok))
-
--- ---- every entry passes f
-
-module _ {A : Type 0} (f : A → Bool) {xs : List A} {ok : Bool} {i : ℕ} (s : Scanned (all f) xs ok i) where
-  pub more-all : i < length xs → (d : A) (t : Bool) → t ≡ f (getD xs i d) → Scanned (all f) xs (ok && t) (i + 1)
-  more-all l d t e = more s t (rw (e, add-one, drop-cons xs i d))
+module _ {A : Type 0} (f : A → Bool) {xs : List A} {ok : Bool} {i : ℕ} (s : Scanned _&&_ (all f) xs ok i) where
+  pub more-all : i < length xs → (d : A) (t : Bool) → t ≡ f (getD xs i d) → Scanned _&&_ (all f) xs (ok && t) (i + 1)
+  more-all l d t e = more s and-assoc t (rw (e, add-one, drop-cons xs i d))
 
   pub over-all : length xs ≤ i → ok ≡ all f xs
-  over-all l = over s (rw (drop-of-length-le xs l))
+  over-all l = over s (and-true ok) (rw (drop-of-length-le xs l))
 
 -- ---- every signed number lies between two ends, which a loop holds as bits
 
 abbrev pub insideBits : Width → ℕ → ℕ → ℤ → Bool
 insideBits w low high x = inside (toZ w low) x (toZ w high)
 
-module _ (w : Width) (low high : ℤ) {xs : List ℤ} {ok : Bool} {i : ℕ} (s : Scanned (all (insideBits w (ofZ w low) (ofZ w high))) xs ok i) where
+module _ (w : Width) (low high : ℤ) {xs : List ℤ} {ok : Bool} {i : ℕ} (s : Scanned _&&_ (all (insideBits w (ofZ w low) (ofZ w high))) xs ok i) where
   abbrev test : ℤ → Bool
   test = insideBits w (ofZ w low) (ofZ w high)
 
   -- t is said of the number as it is read back from its bits
-  pub more-inside : i < length xs → SFits w (getD xs i (pos 0)) → (t : Bool) → t ≡ test (toZ w (ofZ w (getD xs i (pos 0)))) → Scanned (all test) xs (ok && t) (i + 1)
+  pub more-inside : i < length xs → SFits w (getD xs i (pos 0)) → (t : Bool) → t ≡ test (toZ w (ofZ w (getD xs i (pos 0)))) → Scanned _&&_ (all test) xs (ok && t) (i + 1)
   more-inside l f t e = more-all test s l (pos 0) t (rw (toZ-ofZ f) at e)
 
   pub over-inside : length xs ≤ i → SFits w low → SFits w high → ok ≡ all (λ x. inside low x high) xs

@@ -1,6 +1,6 @@
 -- What an accepted operation has passed, and what it leads to.
 use mathlib.Core.Path.{_≡_, refl, sym, _∙_, ap}
-use mathlib.Core.Bool.{not, cond}
+use mathlib.Core.Bool.{_||_, not, cond}
 use mathlib.Core.List.{List, [], _∷_, _++_}
 use Prim.Native.Nat.{ℕ, zero, suc, _+_, _*_, _≤_, _<_}
 use native.Mathlib.Omega.{arith}
@@ -43,12 +43,16 @@ none-above : (ns : List ℕ) → T (not (any (ltb 4096) ns)) → Every (λ n. n 
 none-above [] t = tt
 none-above (n ∷ ns) t = let k = or-no (ltb 4096 n) (any (ltb 4096) ns) t in (ltb-no (k .0), none-above ns (k .1))
 
+-- of the row 2 that does not hold
+pub small-coefficients : (s : Setup) → T (not (eqb (L s) 0 || any (ltb 4096) (L s ∷ M s ∷ S s ∷ Z s ∷ []))) → Every (λ n. n ≤ 4096) (L s ∷ M s ∷ S s ∷ Z s ∷ [])
+small-coefficients s t = none-above (L s ∷ M s ∷ S s ∷ Z s ∷ []) (or-no (eqb (L s) 0) (any (ltb 4096) (L s ∷ M s ∷ S s ∷ Z s ∷ [])) t .1)
+
 pub sound : (s : Setup) (rules : List Rule) → Passed (setupRules s ++ rules) → SetupFacts s
 unfolding setupRules placeOk between
 sound s rules h =
     let table = setupRules s ++ rules in
     let segments = and-yes (leb 2 (N s)) (leb (N s) 128) (T-not-not (between 2 (N s) 128) (fails 1 table h)) in
-    let large = none-above (L s ∷ M s ∷ S s ∷ Z s ∷ []) (or-no (eqb (L s) 0) (any (ltb 4096) (L s ∷ M s ∷ S s ∷ Z s ∷ [])) (fails 2 table h) .1) in
+    let coefficients = small-coefficients s (fails 2 table h) in
     let stable : L s + 4 * M s + 2 * S s ≤ 4096 = ltb-no (fails 3 table h) in
     let places = all-yes (placeOk s) (p s ∷ e s ∷ s .«bridge_place» ∷ s .«neck_place» ∷ []) (fails 4 table h) in
     let place = and-yes (leb 1 (p s)) (leb (p s) (points s)) (places .0) in
@@ -60,7 +64,7 @@ sound s rules h =
       tension = omega arith;
       stiffness = omega arith;
       viscous = omega arith;
-      plain = large .1 .1 .1 .0;
+      plain = coefficients .1 .1 .1 .0;
       mass-low = leb-yes (mass .0);
       mass = leb-yes (mass .1);
       first = leb-yes (place .0);

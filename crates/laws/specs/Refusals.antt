@@ -132,3 +132,41 @@ never-both p e = let z : _≡_ {A = ℕ} 0 1 = cc in absurd (omega arith)
 pub accepted-by : {R B : Type 0} (answer : R → Answer B) (rules : List Rule) → T (numbered rules) → (made : R) (turnedDown : ℕ → R) → ((n : ℕ) → answer (turnedDown n) ≡ refused n)
     → (b : B) → answer (unless (firstOf rules) made turnedDown) ≡ accepted b → Passed rules × (unless (firstOf rules) made turnedDown ≡ made)
 accepted-by {R} answer rules t made turnedDown q = by-table rules t made turnedDown (λ (r : R). (b : _) → answer r ≡ accepted b → Passed rules × (r ≡ made)) (λ h b e. (h, refl)) (λ n h b e. never-both (q (suc n)) e)
+
+-- ---- a table gone through row by row, as code does: t is what a test answered
+
+-- no row above `rest` holds
+pub record Reached (rules rest : List Rule) : Type 0 where
+  pub number : firstOf rules ≡ firstOf rest
+
+pub reached-top : {rules : List Rule} → Reached rules rules
+reached-top = record { number = refl }
+
+-- where the front gives no number, the back is reached
+pub reached-back : (front back : List Rule) → T (numbered front) → firstOf front ≡ 0 → Reached (front ++ back) back
+reached-back front back t e = record { number = first-append front back (passed front t e) }
+
+module _ {rules rest : List Rule} {n : ℕ} {b t : Bool} where
+  pub row-passed : Reached rules ((n when b) ∷ rest) → t ≡ b → t ≡ false → Reached rules rest
+  row-passed r e l = record { number = r .number ∙ ap (λ b. firstOf ((n when b) ∷ rest)) (sym e ∙ l) }
+
+  pub row-holds : Reached rules ((n when b) ∷ rest) → t ≡ b → t ≡ true → firstOf rules ≡ n
+  row-holds r e l = r .number ∙ ap (λ b. firstOf ((n when b) ∷ rest)) (sym e ∙ l)
+
+module _ {rules rest : List Rule} {n : ℕ} {b t : Bool} where
+  pub row-passed-not : Reached rules ((n when not b) ∷ rest) → t ≡ b → not t ≡ false → Reached rules rest
+  row-passed-not r e l = row-passed r (ap not e) l
+
+  pub row-holds-not : Reached rules ((n when not b) ∷ rest) → t ≡ b → not t ≡ true → firstOf rules ≡ n
+  row-holds-not r e l = row-holds r (ap not e) l
+
+-- a number that the front gives is the table's
+pub front-number : (front back : List Rule) (n : ℕ) → n ≡ firstOf front → (n ≡ 0 → ⊥) → firstOf (front ++ back) ≡ n
+front-number [] back n e h = absurd (h e)
+front-number ((k when true) ∷ front) back n e h = sym e
+front-number ((k when false) ∷ front) back n e h = front-number front back n e h
+
+-- the result of an operation whose table gave n
+pub unless-refused {ℓ} : {R : Type ℓ} (n : ℕ) (made : R) (turnedDown : ℕ → R) → (n ≡ 0 → ⊥) → unless n made turnedDown ≡ turnedDown n
+unless-refused zero made turnedDown h = absurd (h refl)
+unless-refused (suc n) made turnedDown h = refl

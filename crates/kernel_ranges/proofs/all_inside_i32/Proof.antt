@@ -1,16 +1,18 @@
 -- The loop's invariant: the test of the whole slice is `ok` and the test of what is left.
+use mathlib.Core.Bool.{_&&_}
 use Prim.Native.Nat.{_-_}
 use native.Mathlib.Omega.{arith}
 use lib.ListN.{length}
 use borrow.Author.Needs.{sfits-of}
 use mir.Syntax.{w32}
+use Rattle.integers.specs.Scan.{Scanned}
 use Rattle.model.specs.Ranges.{all}
-use Rattle.kernel_ranges.proofs.Scan.{Scanned, none, insideBits, more-inside, over-inside}
+use Rattle.kernel_ranges.proofs.Scan.{none, insideBits, more-inside, over-inside}
 use Rattle.kernel_ranges.proofs.all_inside_i32.Statement.{statement}
 use Rattle.kernel_ranges.proofs.all_inside_i32.Tie as tie
 
 abbrev Inv-loop : tie.InvT-loop
-Inv-loop numbers low high ok₀ i₀ i-end ok i = Scanned (all (insideBits w32 low high)) numbers ok i
+Inv-loop numbers low high ok₀ i₀ i-end ok i = Scanned _&&_ (all (insideBits w32 low high)) numbers ok i
 
 abbrev μ-loop : tie.MeasureT-loop
 μ-loop numbers low high ok₀ i₀ i-end ok i = length numbers - i

@@ -1,6 +1,6 @@
 -- The loop's invariant: the test of the whole list is `ok` and the test of what is left.
 use mathlib.Core.Path.{_≡_, refl}
-use mathlib.Core.Bool.{true, _&&_}
+use mathlib.Core.Bool.{true, _&&_, and-assoc, and-true}
 use mathlib.Core.List.{List, [], _∷_}
 use Prim.Native.Nat.{ℕ, suc, _+_, _-_, _≤_, _<_}
 use native.Mathlib.Numerals.{add-one}
@@ -8,8 +8,9 @@ use native.Mathlib.Omega.{arith}
 use lib.Dec.{ltb}
 use lib.ListN.{length, getD, drop, length-drop}
 use lib.Seq.{drop-cons}
+use Rattle.integers.specs.Scan.{Scanned, more, over}
 use Rattle.model.specs.Neck.{increasing}
-use Rattle.kernel_ranges.proofs.Scan.{Scanned, none, more, over}
+use Rattle.kernel_ranges.proofs.Scan.{none}
 use Rattle.kernel_ranges.proofs.increasing.Statement.{statement}
 use Rattle.kernel_ranges.proofs.increasing.Tie as tie
 
@@ -28,16 +29,16 @@ module _ (xs : List ℕ) (i : ℕ) where
       go (y ∷ z ∷ ys) l = absurd (omega arith)
 
 abbrev Inv-loop : tie.InvT-loop
-Inv-loop frets ok₀ i₀ ok i = (i ≤ length frets) × Scanned increasing frets ok i
+Inv-loop frets ok₀ i₀ ok i = (i ≤ length frets) × Scanned _&&_ increasing frets ok i
 
 abbrev μ-loop : tie.MeasureT-loop
 μ-loop frets ok₀ i₀ ok i = length frets - i
 
 loop-again : tie.Need-loop-again Inv-loop μ-loop
-loop-again c = let l = c .before .before .before in (omega arith, more (l .loop .inv .1) _ (next (l .before .args .frets .now) (l .loop .i) (omega arith)))
+loop-again c = let l = c .before .before .before in (omega arith, more (l .loop .inv .1) and-assoc _ (next (l .before .args .frets .now) (l .loop .i) (omega arith)))
 
 returns : tie.Need-returns Inv-loop μ-loop
-returns c = let l = c .before in over (l .loop .inv .1) (past (l .before .args .frets .now) (l .loop .i) (omega arith))
+returns c = let l = c .before in over (l .loop .inv .1) (and-true _) (past (l .before .args .frets .now) (l .loop .i) (omega arith))
 
 pub increasing-spec : {M : Type 1} → statement M
 increasing-spec =

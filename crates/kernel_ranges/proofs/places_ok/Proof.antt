@@ -1,15 +1,17 @@
 -- The loop's invariant: the test of the whole list is `ok` and the test of what is left.
+use mathlib.Core.Bool.{_&&_}
 use Prim.Native.Nat.{_-_}
 use native.Mathlib.Omega.{arith}
 use lib.ListN.{length}
+use Rattle.integers.specs.Scan.{Scanned}
 use Rattle.model.specs.Ranges.{all}
 use Rattle.model.specs.Setup.{placeOk}
-use Rattle.kernel_ranges.proofs.Scan.{Scanned, none, more-all, over-all}
+use Rattle.kernel_ranges.proofs.Scan.{none, more-all, over-all}
 use Rattle.kernel_ranges.proofs.places_ok.Statement.{statement}
 use Rattle.kernel_ranges.proofs.places_ok.Tie as tie
 
 abbrev Inv-loop : tie.InvT-loop
-Inv-loop setup frets ok₀ i₀ i-end ok i = Scanned (all (placeOk setup)) frets ok i
+Inv-loop setup frets ok₀ i₀ i-end ok i = Scanned _&&_ (all (placeOk setup)) frets ok i
 
 abbrev μ-loop : tie.MeasureT-loop
 μ-loop setup frets ok₀ i₀ i-end ok i = length frets - i
