@@ -28,6 +28,10 @@ module _ {ℓ} {A : Type ℓ} where
   getD-tabulate (suc n) f d zero h = refl
   getD-tabulate (suc n) f d (suc k) h = getD-tabulate n (λ j. f (suc j)) d k (le-of-suc-le-suc h)
 
+  pub tabulate-same : (n : ℕ) (x : A) → tabulate n (λ k. x) ≡ replicate n x
+  tabulate-same zero x = refl
+  tabulate-same (suc n) x = ap (λ xs. x ∷ xs) (tabulate-same n x)
+
 module _ {A : Type 0} {d : A} {n : ℕ} {f : ℕ → A} where
   -- before the loop
   pub filled-none : {l : List A} → length l ≡ n → Filled d n f 0 l

@@ -10,8 +10,8 @@ use lib.ListN.{length, drop, getD, replicate, length-replicate}
 use mir.Facts.{and-yes, or-no, T-not-not, leb-yes, ltb-no, eqb-yes}
 use Rattle.integers.specs.Filled.{length-tabulate, getD-tabulate}
 use Rattle.integers.specs.Tests.{is-true, is-false}
-use Rattle.model.specs.Ranges.{any, between}
-use Rattle.model.specs.Refusal.{Rule, Answer, accepted, refused}
+use Rattle.model.specs.Ranges.{all, any, between}
+use Rattle.model.specs.Refusal.{Rule, firstOf, Answer, accepted, refused}
 use Rattle.model.specs.Setup.{N, L, M, S, Z, m, p, e, points, placeOk, lengthOk, setupRules, setup}
 use Rattle.model.specs.Differences.{at}
 use Rattle.model.specs.State.{State, Lent, byTurn, newest, stateOf, put, Neck, Forces}
@@ -21,7 +21,7 @@ use Rattle.model.specs.Start.{startRules, StartResult, startedResult, start, fr
 use Rattle.model.specs.declared.Setup.{Setup}
 use Rattle.model.specs.declared.Frame.{Frame}
 use Rattle.promises.specs.Promises.{Passed, LaidAt, Accepts, Every}
-use Rattle.laws.specs.Refusals.{fails, passed-append, all-yes, by-table, never-both, accepted-by}
+use Rattle.laws.specs.Refusals.{passed, fails, Reached, reached-back, front-number, passed-append, all-yes, by-table, never-both, accepted-by}
 use Rattle.laws.specs.Strings.{_spans_}
 
 -- ---- a setup
@@ -75,6 +75,27 @@ pub setup-facts : (s : Setup) → Passed (setupRules s) → SetupFacts s
 unfolding setupRules
 setup-facts s h = sound s [] h
 
+-- what an entry learns of its table, where the examination of its setup answered n
+module _ (s : Setup) (n : ℕ) (e : n ≡ firstOf (setupRules s)) where
+  pub setup-passed : n ≡ 0 → Passed (setupRules s)
+  unfolding setupRules
+  setup-passed z = passed (setupRules s) tt (sym e ∙ z)
+
+  pub setup-reached : (rules : List Rule) → n ≡ 0 → Reached (setupRules s ++ rules) rules
+  setup-reached rules z = reached-back (setupRules s) rules (setup-passed z)
+
+  pub setup-refused : (rules : List Rule) → (n ≡ 0 → ⊥) → firstOf (setupRules s ++ rules) ≡ n
+  setup-refused rules h = front-number (setupRules s) rules n e h
+
+-- buffers that pass 6 are N − 1 long
+pub right-lengths : (s : Setup) (ns : List ℕ) → T (not (not (all (lengthOk s) ns))) → Every (λ n. n ≡ points s) ns
+unfolding lengthOk
+right-lengths s ns t = go ns (all-yes (lengthOk s) ns t)
+  where
+    go : (ns : List ℕ) → Every (λ n. T (lengthOk s n)) ns → Every (λ n. n ≡ points s) ns
+    go [] h = tt
+    go (n ∷ ns) h = (eqb-yes (h .0), go ns (h .1))
+
 -- ---- a setup with buffers of its length, as rules 1 to 6 leave it
 
 pub record Examined (s : Setup) (neck : Neck) (x : State) : Type 0 where
@@ -86,16 +107,16 @@ pub record Examined (s : Setup) (neck : Neck) (x : State) : Type 0 where
   pub contact : x .contact spans points s
 
 pub examined : (s : Setup) (neck : Neck) (x : State) (rules : List Rule) → Passed (setupRules s ++ buffersRule s neck x ∷ rules) → Examined s neck x
-unfolding setupRules lengthOk
+unfolding setupRules
 examined s neck x rules h =
-    let sizes = all-yes (lengthOk s) (length (neck .heights) ∷ length (neck .stiffness) ∷ length (x .newer) ∷ length (x .older) ∷ length (x .contact) ∷ []) (fails 6 (setupRules s ++ buffersRule s neck x ∷ rules) h) in
+    let lengths = right-lengths s (length (neck .heights) ∷ length (neck .stiffness) ∷ length (x .newer) ∷ length (x .older) ∷ length (x .contact) ∷ []) (fails 6 (setupRules s ++ buffersRule s neck x ∷ rules) h) in
     record {
       setup = sound s (buffersRule s neck x ∷ rules) h;
-      heights = record { long = eqb-yes (sizes .0) };
-      stiffness = eqb-yes (sizes .1 .0);
-      newer = record { long = eqb-yes (sizes .1 .1 .0) };
-      older = record { long = eqb-yes (sizes .1 .1 .1 .0) };
-      contact = record { long = eqb-yes (sizes .1 .1 .1 .1 .0) };
+      heights = record { long = lengths .0 };
+      stiffness = lengths .1 .0;
+      newer = record { long = lengths .1 .1 .0 };
+      older = record { long = lengths .1 .1 .1 .0 };
+      contact = record { long = lengths .1 .1 .1 .1 .0 };
     }
 
 -- ---- a step

@@ -142,9 +142,8 @@ pub record Reached (rules rest : List Rule) : Type 0 where
 pub reached-top : {rules : List Rule} → Reached rules rules
 reached-top = record { number = refl }
 
--- where the front gives no number, the back is reached
-pub reached-back : (front back : List Rule) → T (numbered front) → firstOf front ≡ 0 → Reached (front ++ back) back
-reached-back front back t e = record { number = first-append front back (passed front t e) }
+pub reached-back : (front back : List Rule) → Passed front → Reached (front ++ back) back
+reached-back front back h = record { number = first-append front back h }
 
 module _ {rules rest : List Rule} {n : ℕ} {b t : Bool} where
   pub row-passed : Reached rules ((n when b) ∷ rest) → t ≡ b → t ≡ false → Reached rules rest
@@ -166,7 +165,11 @@ front-number [] back n e h = absurd (h e)
 front-number ((k when true) ∷ front) back n e h = sym e
 front-number ((k when false) ∷ front) back n e h = front-number front back n e h
 
--- the result of an operation whose table gave n
-pub unless-refused {ℓ} : {R : Type ℓ} (n : ℕ) (made : R) (turnedDown : ℕ → R) → (n ≡ 0 → ⊥) → unless n made turnedDown ≡ turnedDown n
-unless-refused zero made turnedDown h = absurd (h refl)
-unless-refused (suc n) made turnedDown h = refl
+-- the result of an operation by the number that its table gave
+module _ {ℓ} {R : Type ℓ} (rules : List Rule) (made : R) (turnedDown : ℕ → R) where
+  pub made-by : firstOf rules ≡ 0 → made ≡ unless (firstOf rules) made turnedDown
+  made-by e = sym (ap (λ n. unless n made turnedDown) e)
+
+  pub refused-by : (n : ℕ) → firstOf rules ≡ n → (n ≡ 0 → ⊥) → turnedDown n ≡ unless (firstOf rules) made turnedDown
+  refused-by zero e h = absurd (h refl)
+  refused-by (suc n) e h = sym (ap (λ n. unless n made turnedDown) e)

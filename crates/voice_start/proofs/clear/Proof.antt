@@ -1,45 +1,24 @@
+-- The loop's invariant: the numbers below i are 0.
+use mathlib.Core.Path.{_≡_, refl, sym, ap, _∙_}
+use Prim.Native.Nat.{_-_}
+use native.Mathlib.Omega.{arith}
+use lib.IntN.{pos}
+use lib.ListN.{length}
+use Rattle.integers.specs.Filled.{Filled, filled-none, filled-more, filled-all, tabulate-same}
 use Rattle.voice_start.proofs.clear.Statement.{statement}
 use Rattle.voice_start.proofs.clear.Tie as tie
-use Rattle.voice_start.proofs.clear.Reads as reads
-use Rattle.voice_start.proofs.clear.Lts as lts
 
 abbrev Inv-loop : tie.InvT-loop
-Inv-loop numbers₀ i₀ i-end numbers i = ?
+Inv-loop numbers₀ i₀ i-end numbers i = Filled (pos 0) (length numbers₀) (λ k. pos 0) i numbers
 
 abbrev μ-loop : tie.MeasureT-loop
-μ-loop numbers₀ i₀ i-end numbers i = ?
+μ-loop numbers₀ i₀ i-end numbers i = length numbers₀ - i
 
--- src/lib.rt:28:5
-loop-holds : tie.Need-loop-holds Inv-loop μ-loop
-loop-holds c = ?
-
--- src/lib.rt:29:9
-mul-numbers : tie.Need-mul-numbers Inv-loop μ-loop
-mul-numbers c = ?
-
--- src/lib.rt:29:9
-slice-set-of-numbers : tie.Need-slice-set-of-numbers Inv-loop μ-loop
-slice-set-of-numbers c = ?
-
--- src/lib.rt:28:9
-add-i : tie.Need-add-i Inv-loop μ-loop
-add-i c = ?
-
--- src/lib.rt:28:5
-loop-less : tie.Need-loop-less Inv-loop μ-loop
-loop-less c = ?
-
--- src/lib.rt:28:5
 loop-again : tie.Need-loop-again Inv-loop μ-loop
-loop-again c = ?
+loop-again c = filled-more (c .loop-test .taken) (c .before .loop .inv) refl
 
--- src/lib.rt:25:1
-same-length : tie.Need-same-length Inv-loop μ-loop
-same-length c = ?
-
--- src/lib.rt:25:1
 returns : tie.Need-returns Inv-loop μ-loop
-returns c = ?
+returns c = filled-all (c .loop-test .left) (c .before .loop .inv) ∙ tabulate-same (length (c .before .before .args .numbers .now)) (pos 0)
 
 pub clear-spec : {M : Type 1} → statement M
 clear-spec =
@@ -47,11 +26,11 @@ clear-spec =
     (tie.spec
     Inv-loop
     μ-loop
-    loop-holds
-    mul-numbers
-    slice-set-of-numbers
-    add-i
-    loop-less
+    (λ c. filled-none refl)
+    (λ c. omega arith)
+    (λ c. omega (arith, c .before .loop .inv .len))
+    (λ c. omega arith)
+    (λ c. omega arith)
     loop-again
-    same-length
+    (λ c. c .before .loop .inv .len)
     returns)

@@ -1,0 +1,112 @@
+-- The table is gone through row by row; a passed table leads to the three cleared buffers.
+use mathlib.Core.Path.{_≡_, refl, sym, _∙_}
+use mathlib.Core.Bool.{_&&_}
+use mathlib.Core.List.{List, [], _∷_}
+use Prim.Native.Nat.{ℕ}
+use native.Mathlib.Omega.{arith}
+use borrow.Author.Needs.{needs}
+use lib.IntN.{ℤ, pos}
+use lib.ListN.{length, drop}
+use mir.Facts.{toZ-ofZ}
+use Rattle.model.specs.Answers.{startResult}
+use Rattle.model.specs.Ranges.{inside, displacementOk}
+use Rattle.model.specs.Refusal.{Rule, firstOf, Answer, refused}
+use Rattle.model.specs.Setup.{points, setupRules}
+use Rattle.model.specs.Start.{fresh, StartResult, startedResult, startRules, start}
+use Rattle.model.specs.declared.Setup.{Setup}
+use Rattle.model.specs.declared.StartAnswer.the-variants.{Refused}
+use Rattle.promises.specs.Promises.{Every}
+use Rattle.laws.specs.Accepted.{SetupFacts, setup-facts, setup-passed, setup-reached, setup-refused, right-lengths}
+use Rattle.laws.specs.Refusals.{Reached, row-passed-not, row-holds-not, made-by, refused-by}
+use Rattle.voice_start.proofs.fresh_start.Statement.{statement}
+use Rattle.voice_start.proofs.fresh_start.Tie as tie
+use Rattle.voice_start.proofs.fresh_start.Reads as reads
+use Rattle.voice_start.proofs.fresh_start.Lts as lts
+use Rattle.voice_setup.proofs.buffers.three_lengths_ok.Reads as lengths-reads
+use Rattle.voice_setup.proofs.setup_refusal.Reads as setup-reads
+use Rattle.voice_start.proofs.clear.Reads as clear-reads
+use Rattle.voice_start.proofs.finger_ok.Reads as finger-reads
+
+abbrev Learnt : lts.Claims
+Learnt = (setup-reads.Asked, setup-reads.Learnt, lengths-reads.Asked, lengths-reads.Learnt, finger-reads.Asked, finger-reads.Learnt, clear-reads.Asked, clear-reads.Learnt)
+
+module _ (c : lts.Start Learnt reads.Pre reads.Post) where
+  abbrev rules : List Rule
+  rules = startRules (c .args .setup) (c .args .first .now) (c .args .second .now) (c .args .contact .now) (c .args .height) (c .args .older)
+
+  abbrev buffers : List ℕ
+  buffers = length (c .args .first .now) ∷ length (c .args .second .now) ∷ length (c .args .contact .now) ∷ []
+
+  abbrev result : StartResult
+  result = start (c .args .setup) (c .args .first .now) (c .args .second .now) (c .args .contact .now) (c .args .height) (c .args .older)
+
+  turned-down : (n : ℕ) → firstOf rules ≡ n → (n ≡ 0 → ⊥) → startResult (Refused n) (c .args .first .now) (c .args .second .now) (c .args .contact .now) ≡ result
+  unfolding start
+  turned-down n e h = refused-by rules _ _ n e h
+
+after-5 : (c : lts.Else1 Learnt reads.Pre reads.Post) → Reached (rules (c .before .before)) (drop 5 (rules (c .before .before)))
+unfolding startRules setupRules
+after-5 c = setup-reached (c .before .before .args .setup) (c .before .setup-refusal .result) (c .before .setup-refusal .ensures) _ (c .if1 .left)
+
+after-6 : (c : lts.Else2 Learnt reads.Pre reads.Post) → Reached (rules (c .before .before .before .before)) (drop 6 (rules (c .before .before .before .before)))
+unfolding startRules setupRules
+after-6 c = row-passed-not (after-5 (c .before .before)) (c .before .three-lengths-ok .ensures) (c .if2 .left)
+
+module _ (c : lts.After-finger-ok Learnt reads.Pre reads.Post) where
+  abbrev called : lts.Start Learnt reads.Pre reads.Post
+  called = c .before .before .before .before .before
+
+  judged : c .finger-ok .result ≡ (inside (pos 0) (called .args .height) (pos 1048576) && displacementOk (called .args .older))
+  judged = rw (toZ-ofZ (called .fits .height), toZ-ofZ (called .fits .older)) at (c .finger-ok .ensures)
+
+-- every row is passed
+module _ (c : lts.Else3 Learnt reads.Pre reads.Post) where
+  after-7 : Reached (rules (called (c .before))) []
+  unfolding startRules setupRules
+  after-7 = row-passed-not (after-6 (c .before .before)) (judged (c .before)) (c .if3 .left)
+
+  lengths : Every (λ n. n ≡ points (called (c .before) .args .setup)) (buffers (called (c .before)))
+  lengths = let a = called (c .before) in right-lengths (a .args .setup) (buffers a) (rw (← c .before .before .before .three-lengths-ok .ensures, c .before .before .if2 .left) tt)
+
+returns : tie.Need-returns
+unfolding startRules
+returns c = let n = c .before .setup-refusal .result in turned-down (c .before .before) n (setup-refused (c .before .before .args .setup) n (c .before .setup-refusal .ensures) _ (c .if1 .taken)) (c .if1 .taken)
+
+returns-2 : tie.Need-returns-2
+unfolding startRules setupRules
+returns-2 c = turned-down (c .before .before .before .before) 6 (row-holds-not (after-5 (c .before .before)) (c .before .three-lengths-ok .ensures) (c .if2 .taken)) (λ z. omega arith)
+
+returns-3 : tie.Need-returns-3
+unfolding startRules setupRules
+returns-3 c = turned-down (called (c .before)) 10 (row-holds-not (after-6 (c .before .before)) (judged (c .before)) (c .if3 .taken)) (λ z. omega arith)
+
+returns-4 : tie.Need-returns-4
+unfolding start fresh
+returns-4 c =
+    let judged-call = c .before .before .before .before .before .before .before .before .before in
+    let first = c .before .before .before .before .before .before .before in
+    let second = c .before .before .before .before in
+    let a = called (judged-call .before) in
+    rw (toZ-ofZ (a .fits .height), toZ-ofZ (a .fits .older), first .clear .ensures, second .clear2 .ensures, c .before .clear3 .ensures, lengths judged-call .0, lengths judged-call .1 .0, lengths judged-call .1 .1 .0)
+        (made-by (rules a) (startedResult (fresh (a .args .setup) (a .args .height) (a .args .older))) _ (after-7 judged-call .number))
+
+three-lengths-ok-requires : tie.Need-three-lengths-ok-requires
+three-lengths-ok-requires c κs = let s = c .before .before .args .setup in omega (arith, setup-facts s (setup-passed s (c .before .setup-refusal .result) (c .before .setup-refusal .ensures) (c .if1 .left)) .segments-low)
+
+pub fresh-start-spec : {M : Type 1} → statement M
+fresh-start-spec =
+    tie.close
+    (tie.spec
+    (λ c κs. tt)
+    returns
+    three-lengths-ok-requires
+    returns-2
+    (λ c κs. tt)
+    returns-3
+    (λ c κs. tt)
+    (λ c κs. tt)
+    (λ c κs. tt)
+    (λ c. search needs)
+    (λ c. search needs)
+    (λ c. search needs)
+    returns-4)
