@@ -2,10 +2,12 @@
 use mathlib.Core.Path.{_≡_, refl, sym, _∙_, ap}
 use mathlib.Core.Bool.{Bool, true, false, not, _&&_, cond}
 use mathlib.Core.List.{List, [], _∷_, _++_}
-use Prim.Native.Nat.{ℕ, zero, suc}
+use Prim.Native.Nat.{ℕ, zero, suc, _<_}
+use native.Mathlib.Nat.{le-of-suc-le-suc, not-suc-le-zero}
 use native.Mathlib.Omega.{arith}
 use lib.Dec.{T, ltb, eqb}
 use lib.IntN.{ℤ, pos}
+use lib.ListN.{length, getD}
 use mir.Facts.{and-yes, yes-and, T-not-not}
 use Rattle.model.specs.Ranges.{all}
 use Rattle.model.specs.Refusal.{Rule, _when_, firstOf, Answer, accepted, refused, unless}
@@ -105,6 +107,11 @@ all-append f (x ∷ xs) ys t =
 pub append-all : {B : Type 0} (f : B → Bool) (xs ys : List B) → T (all f xs) → T (all f ys) → T (all f (xs ++ ys))
 append-all f [] ys t u = u
 append-all f (x ∷ xs) ys t u = let h = and-yes (f x) (all f xs) t in yes-and (f x) (all f (xs ++ ys)) (h .0) (append-all f xs ys (h .1) u)
+
+pub all-entry : {B : Type 0} (f : B → Bool) (xs : List B) (d : B) → T (all f xs) → (i : ℕ) → i < length xs → T (f (getD xs i d))
+all-entry f [] d t i l = absurd (not-suc-le-zero l)
+all-entry f (x ∷ xs) d t zero l = and-yes (f x) (all f xs) t .0
+all-entry f (x ∷ xs) d t (suc i) l = all-entry f xs d (and-yes (f x) (all f xs) t .1) i (le-of-suc-le-suc l)
 
 -- what every entry passes, and 0, every place does
 pub at-all : (f : ℤ → Bool) (u : List ℤ) → T (f (pos 0)) → T (all f u) → (i : ℕ) → T (f (at u i))

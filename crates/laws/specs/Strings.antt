@@ -2,7 +2,7 @@
 use mathlib.Core.Path.{_≡_, refl, sym, _∙_, ap, ap₂}
 use mathlib.Core.Bool.{Bool, true, false, cond}
 use mathlib.Core.List.{List, [], _∷_, zipWith, map}
-use Prim.Native.Nat.{ℕ, zero, suc, _≤_, _<_, zero-le, suc-le-suc}
+use Prim.Native.Nat.{ℕ, zero, suc, _-_, _≤_, _<_, zero-le, suc-le-suc}
 use native.Mathlib.Nat.{le-of-eq, not-suc-le-zero}
 use native.Mathlib.Omega.{arith}
 use lib.Dec.{eqb, ltb, ltb→lt, nltb→le, eqb·suc-zero, eqb·suc-suc}
@@ -22,6 +22,11 @@ use Rattle.model.specs.Differences.{at, places, plus, minus, times, D1, D2, dot
 pub at-places : (n : ℕ) (f : ℕ → ℤ) (i : ℕ) → 1 ≤ i → i ≤ n → at (places n f) i ≡ f i
 at-places n f zero h l = absurd (not-suc-le-zero h)
 at-places n f (suc k) h l = getD-tabulate n (λ k. f (suc k)) (pos 0) k l
+
+-- a place above 0 by its index in the list
+pub at-index : (u : List ℤ) (i : ℕ) → 1 ≤ i → at u i ≡ getD u (i - 1) (pos 0)
+at-index u zero h = absurd (not-suc-le-zero h)
+at-index u (suc k) h = let e : suc k - 1 ≡ k = omega arith in rw e refl
 
 -- a string of n inner points, so that both can be inferred
 infix 4 _spans_

@@ -1,45 +1,27 @@
+-- The loop's invariant: a fret stands at the place if `found`, or if one of those left does.
+use mathlib.Core.Path.{refl}
+use mathlib.Core.Bool.{_||_}
+use Prim.Native.Nat.{_-_}
+use native.Mathlib.Omega.{arith}
+use lib.Dec.{eqb}
+use lib.ListN.{length}
+use Rattle.integers.specs.Scan.{Scanned}
+use Rattle.model.specs.Ranges.{any}
+use Rattle.voice_neck.proofs.Scan.{none, more-any, over-any}
 use Rattle.voice_neck.proofs.frets.fret_at.Statement.{statement}
 use Rattle.voice_neck.proofs.frets.fret_at.Tie as tie
-use Rattle.voice_neck.proofs.frets.fret_at.Reads as reads
-use Rattle.voice_neck.proofs.frets.fret_at.Lts as lts
 
 abbrev Inv-loop : tie.InvT-loop
-Inv-loop frets place found₀ i₀ i-end found i = ?
+Inv-loop frets place found₀ i₀ i-end found i = Scanned _||_ (any (eqb place)) frets found i
 
 abbrev μ-loop : tie.MeasureT-loop
-μ-loop frets place found₀ i₀ i-end found i = ?
+μ-loop frets place found₀ i₀ i-end found i = length frets - i
 
--- src/frets.rt:43:5
-loop-holds : tie.Need-loop-holds Inv-loop μ-loop
-loop-holds c = ?
-
--- src/frets.rt:44:27
-mul-found : tie.Need-mul-found Inv-loop μ-loop
-mul-found c = ?
-
--- src/frets.rt:44:27
-shared-slice-read-found : tie.Need-shared-slice-read-found Inv-loop μ-loop
-shared-slice-read-found c = ?
-
--- src/frets.rt:44:27
-cast-found : tie.Need-cast-found Inv-loop μ-loop
-cast-found c = ?
-
--- src/frets.rt:43:9
-add-i : tie.Need-add-i Inv-loop μ-loop
-add-i c = ?
-
--- src/frets.rt:43:5
-loop-less : tie.Need-loop-less Inv-loop μ-loop
-loop-less c = ?
-
--- src/frets.rt:43:5
 loop-again : tie.Need-loop-again Inv-loop μ-loop
-loop-again c = ?
+loop-again c = more-any (eqb (c .before .before .before .args .place)) (c .before .before .loop .inv) (c .before .loop-test .taken) 0 _ refl
 
--- src/frets.rt:39:1
 returns : tie.Need-returns Inv-loop μ-loop
-returns c = ?
+returns c = over-any (eqb (c .before .before .args .place)) (c .before .loop .inv) (c .loop-test .left)
 
 pub fret-at-spec : {M : Type 1} → statement M
 fret-at-spec =
@@ -47,11 +29,11 @@ fret-at-spec =
     (tie.spec
     Inv-loop
     μ-loop
-    loop-holds
-    mul-found
-    shared-slice-read-found
-    cast-found
-    add-i
-    loop-less
+    (λ c. none)
+    (λ c. omega arith)
+    (λ c. omega arith)
+    (λ c. omega (arith, c .shared-slice-known .given (c .before .before .loop .i)))
+    (λ c. omega arith)
+    (λ c. omega arith)
     loop-again
     returns)

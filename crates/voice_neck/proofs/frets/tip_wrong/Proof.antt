@@ -1,57 +1,63 @@
+-- The loop's invariant: the tip is wrong if `wrong`, or at one of the frets left.
+use mathlib.Core.Path.{_≡_, refl}
+use mathlib.Core.Bool.{Bool, _||_}
+use mathlib.Core.List.{List}
+use Prim.Native.Nat.{ℕ, _-_, _≤_}
+use native.Mathlib.Omega.{arith}
+use borrow.Author.Needs.{needs, sfits-of}
+use lib.Dec.{leb}
+use lib.IntN.{ℤ, pos}
+use lib.ListN.{length, getD}
+use lib.Signed.{ltZ}
+use mir.Syntax.{w32}
+use mir.Val.{toZ, ofZ}
+use mir.Facts.{toZ-ofZ, and-yes, leb-yes}
+use Rattle.integers.specs.Scan.{Scanned}
+use Rattle.model.specs.Differences.{at}
+use Rattle.model.specs.Ranges.{any, between}
+use Rattle.laws.specs.Refusals.{all-entry}
+use Rattle.laws.specs.Strings.{at-index}
+use Rattle.voice_neck.proofs.Scan.{none, more-any, over-any}
 use Rattle.voice_neck.proofs.frets.tip_wrong.Statement.{statement}
 use Rattle.voice_neck.proofs.frets.tip_wrong.Tie as tie
 use Rattle.voice_neck.proofs.frets.tip_wrong.Reads as reads
 use Rattle.voice_neck.proofs.frets.tip_wrong.Lts as lts
 
+-- the tip is wrong at this place
+abbrev wrongAt : ℤ → List ℤ → ℕ → Bool
+wrongAt tip board i = ltZ (pos 0) tip || ltZ tip (at board i)
+
 abbrev Inv-loop : tie.InvT-loop
-Inv-loop board frets tip wrong₀ i₀ i-end wrong i = ?
+Inv-loop board frets tip wrong₀ i₀ i-end wrong i = Scanned _||_ (any (wrongAt (toZ w32 tip) board)) frets wrong i
 
 abbrev μ-loop : tie.MeasureT-loop
-μ-loop board frets tip wrong₀ i₀ i-end wrong i = ?
+μ-loop board frets tip wrong₀ i₀ i-end wrong i = length frets - i
 
--- src/frets.rt:31:5
-loop-holds : tie.Need-loop-holds Inv-loop μ-loop
-loop-holds c = ?
+module _ (c : lts.In-loop reads.Pre reads.Post Inv-loop μ-loop) where
+  abbrev place : ℕ
+  place = getD (c .before .before .args .frets .now) (c .before .loop .i) 0
 
--- src/frets.rt:32:21
-mul-place : tie.Need-mul-place Inv-loop μ-loop
-mul-place c = ?
+  -- the fret stands on the board
+  on-board : (1 ≤ place) × (place ≤ length (c .before .before .args .board .now))
+  unfolding between
+  on-board =
+      let n = length (c .before .before .args .board .now) in
+      let t = and-yes (leb 1 place) (leb place n) (all-entry (λ i. between 1 i n) (c .before .before .args .frets .now) 0 (c .before .before .pre) (c .before .loop .i) (omega arith)) in
+      (leb-yes (t .0), leb-yes (t .1))
 
--- src/frets.rt:32:21
-shared-slice-read-place : tie.Need-shared-slice-read-place Inv-loop μ-loop
-shared-slice-read-place c = ?
-
--- src/frets.rt:32:21
-cast-place : tie.Need-cast-place Inv-loop μ-loop
-cast-place c = ?
-
--- src/frets.rt:33:43
-sub-wrong : tie.Need-sub-wrong Inv-loop μ-loop
-sub-wrong c = ?
-
--- src/frets.rt:33:37
-mul-wrong : tie.Need-mul-wrong Inv-loop μ-loop
-mul-wrong c = ?
-
--- src/frets.rt:33:37
-shared-slice-copy-out-wrong : tie.Need-shared-slice-copy-out-wrong Inv-loop μ-loop
-shared-slice-copy-out-wrong c = ?
-
--- src/frets.rt:31:9
-add-i : tie.Need-add-i Inv-loop μ-loop
-add-i c = ?
-
--- src/frets.rt:31:5
-loop-less : tie.Need-loop-less Inv-loop μ-loop
-loop-less c = ?
-
--- src/frets.rt:31:5
 loop-again : tie.Need-loop-again Inv-loop μ-loop
-loop-again c = ?
+loop-again c =
+    let l = c .before .before in
+    let a = l .before .before .args in
+    let height = getD (a .board .now) (place l - 1) (pos 0) in
+    let height-held : toZ w32 (ofZ w32 height) ≡ height = toZ-ofZ (sfits-of (c .wrong .given)) in
+    let height-read = at-index (a .board .now) (place l) (on-board l .0) in
+    more-any (wrongAt (toZ w32 (ofZ w32 (a .tip))) (a .board .now)) (l .before .loop .inv) (omega arith) 0 _ (rw (height-read, height-held) refl)
 
--- src/frets.rt:26:1
 returns : tie.Need-returns Inv-loop μ-loop
-returns c = ?
+returns c =
+    let start = c .before .before in
+    rw (toZ-ofZ (start .fits .tip)) at (over-any (wrongAt (toZ w32 (ofZ w32 (start .args .tip))) (start .args .board .now)) (c .before .loop .inv) (c .loop-test .left))
 
 pub tip-wrong-spec : {M : Type 1} → statement M
 tip-wrong-spec =
@@ -59,14 +65,14 @@ tip-wrong-spec =
     (tie.spec
     Inv-loop
     μ-loop
-    loop-holds
-    mul-place
-    shared-slice-read-place
-    cast-place
-    sub-wrong
-    mul-wrong
-    shared-slice-copy-out-wrong
-    add-i
-    loop-less
+    (λ c. none)
+    (λ c. omega arith)
+    (λ c. omega arith)
+    (λ c. omega (arith, c .shared-slice-known .given (c .before .before .loop .i)))
+    (λ c. on-board (c .before) .0)
+    (λ c. let h = on-board (c .before) in search needs)
+    (λ c. omega (arith, on-board (c .before)))
+    (λ c. omega arith)
+    (λ c. omega arith)
     loop-again
     returns)

@@ -1,0 +1,2 @@
+-- What the proofs of the fret functions share.
+mod Scan

@@ -1,0 +1,176 @@
+-- The table is gone through row by row; a passed table leads to the neck as planned.
+use mathlib.Core.Path.{_≡_, refl, sym, _∙_, ap}
+use mathlib.Core.Bool.{Bool, _||_, not}
+use mathlib.Core.List.{List, [], _∷_}
+use Prim.Native.Nat.{ℕ}
+use native.Mathlib.Omega.{arith}
+use borrow.Author.Needs.{needs}
+use lib.Dec.{T, ltb}
+use lib.IntN.{ℤ, pos}
+use lib.ListN.{length, drop}
+use lib.Signed.{ltZ}
+use mir.Syntax.{w32}
+use mir.Val.{toZ, ofZ}
+use mir.Facts.{toZ-ofZ, or-no, T-not-not}
+use Rattle.model.specs.Answers.{neckResult}
+use Rattle.model.specs.Differences.{at}
+use Rattle.model.specs.Neck.{Plan, increasing, NeckResult, laid, laidResult, neckRules, lay}
+use Rattle.model.specs.Ranges.{all, any, between}
+use Rattle.model.specs.Refusal.{Rule, firstOf}
+use Rattle.model.specs.Setup.{points, placeOk, setupRules}
+use Rattle.model.specs.State.{Neck}
+use Rattle.model.specs.declared.Setup.{Setup}
+use Rattle.model.specs.declared.NeckAnswer.the-variants.{Refused}
+use Rattle.promises.specs.Promises.{Every}
+use Rattle.laws.specs.Accepted.{SetupFacts, setup-facts, setup-passed, setup-reached, setup-refused, right-lengths}
+use Rattle.laws.specs.Refusals.{Reached, row-passed, row-passed-not, row-holds, row-holds-not, made-by, refused-by}
+use Rattle.voice_neck.proofs.lay_neck.Statement.{statement}
+use Rattle.voice_neck.proofs.lay_neck.Tie as tie
+use Rattle.voice_neck.proofs.lay_neck.Reads as reads
+use Rattle.voice_neck.proofs.lay_neck.Lts as lts
+use Rattle.kernel_ranges.proofs.heights_ok.Reads as heights-reads
+use Rattle.voice_setup.proofs.setup_refusal.Reads as setup-reads
+use Rattle.voice_setup.proofs.buffers.three_lengths_ok.Reads as lengths-reads
+use Rattle.voice_neck.proofs.frets.frets_wrong.Reads as frets-reads
+use Rattle.voice_neck.proofs.frets.tip_wrong.Reads as tip-reads
+use Rattle.voice_neck.proofs.write_neck.Reads as write-reads
+
+abbrev Learnt : lts.Claims
+Learnt = (setup-reads.Asked, setup-reads.Learnt, lengths-reads.Asked, lengths-reads.Learnt, heights-reads.Asked, heights-reads.Learnt, frets-reads.Asked, frets-reads.Learnt, tip-reads.Asked, tip-reads.Learnt, write-reads.Asked, write-reads.Learnt)
+
+module _ (c : lts.Start Learnt reads.Pre reads.Post) where
+  abbrev plan : Plan
+  plan = record { board = c .args .board .now; boardStiffness = c .args .board-stiffness; frets = c .args .frets .now; tip = c .args .tip; fretStiffness = c .args .fret-stiffness }
+
+  abbrev rules : List Rule
+  rules = neckRules (c .args .setup) plan (c .args .heights .now) (c .args .stiffness .now)
+
+  -- the rows below the k-th
+  abbrev After : ℕ → Type 0
+  After k = Reached rules (drop k rules)
+
+  abbrev result : NeckResult
+  result = lay (c .args .setup) plan (c .args .heights .now) (c .args .stiffness .now)
+
+  turned-down : (n : ℕ) → firstOf rules ≡ n → (n ≡ 0 → ⊥) → neckResult (Refused n) (c .args .heights .now) (c .args .stiffness .now) ≡ result
+  unfolding lay
+  turned-down n e h = refused-by rules _ _ n e h
+
+abbrev call : lts.After-setup-refusal Learnt reads.Pre reads.Post → lts.Start Learnt reads.Pre reads.Post
+call c = c .before .before .before
+
+module _ (c : lts.Else1 Learnt reads.Pre reads.Post) where
+  abbrev call-1 : lts.Start Learnt reads.Pre reads.Post
+  call-1 = call (c .before)
+
+  facts : SetupFacts (call-1 .args .setup)
+  facts = setup-facts (call-1 .args .setup) (setup-passed (call-1 .args .setup) (c .before .setup-refusal .result) (c .before .setup-refusal .ensures) (c .if1 .left))
+
+  after-5 : After call-1 5
+  unfolding neckRules setupRules
+  after-5 = setup-reached (call-1 .args .setup) (c .before .setup-refusal .result) (c .before .setup-refusal .ensures) _ (c .if1 .left)
+
+module _ (c : lts.Else2 Learnt reads.Pre reads.Post) where
+  abbrev call-2 : lts.Start Learnt reads.Pre reads.Post
+  call-2 = call-1 (c .before .before)
+
+  after-6 : After call-2 6
+  unfolding neckRules setupRules
+  after-6 = row-passed-not (after-5 (c .before .before)) (c .before .three-lengths-ok .ensures) (c .if2 .left)
+
+  abbrev buffers : List ℕ
+  buffers = length (call-2 .args .board .now) ∷ length (call-2 .args .heights .now) ∷ length (call-2 .args .stiffness .now) ∷ []
+
+  lengths : Every (λ n. n ≡ points (call-2 .args .setup)) buffers
+  lengths = right-lengths (call-2 .args .setup) buffers (rw (← c .before .three-lengths-ok .ensures, c .if2 .left) tt)
+
+module _ (c : lts.Else3 Learnt reads.Pre reads.Post) where
+  abbrev call-3 : lts.Start Learnt reads.Pre reads.Post
+  call-3 = call-2 (c .before .before)
+
+  after-7 : After call-3 7
+  unfolding neckRules setupRules
+  after-7 = row-passed-not (after-6 (c .before .before)) (c .before .heights-ok .ensures) (c .if3 .left)
+
+module _ (c : lts.Else4 Learnt reads.Pre reads.Post) where
+  abbrev call-4 : lts.Start Learnt reads.Pre reads.Post
+  call-4 = call-3 (c .before .before)
+
+  after-8 : After call-4 8
+  unfolding neckRules setupRules
+  after-8 = row-passed (after-7 (c .before .before)) (c .before .frets-wrong .ensures) (c .if4 .left)
+
+  -- every fret stands on the board
+  on-board : T (all (λ i. between 1 i (length (call-4 .args .board .now))) (call-4 .args .frets .now))
+  unfolding placeOk
+  on-board =
+      let frets = call-4 .args .frets .now in
+      let placed = all (placeOk (call-4 .args .setup)) frets in
+      let t = or-no (ltb 24 (length frets) || not placed) (not (increasing frets)) (rw (← c .before .frets-wrong .ensures, c .if4 .left) tt) .0 in
+      rw (lengths (c .before .before .before .before) .0) (T-not-not placed (or-no (ltb 24 (length frets)) (not placed) t .1))
+
+module _ (c : lts.After-tip-wrong Learnt reads.Pre reads.Post) where
+  abbrev call-5 : lts.Start Learnt reads.Pre reads.Post
+  call-5 = call-4 (c .before)
+
+  -- of the tip as it was given
+  tip-judged : c .tip-wrong .result ≡ any (λ i. ltZ (pos 0) (call-5 .args .tip) || ltZ (call-5 .args .tip) (at (call-5 .args .board .now) i)) (call-5 .args .frets .now)
+  tip-judged = rw (toZ-ofZ (call-5 .fits .tip)) at (c .tip-wrong .ensures)
+
+after-9 : (c : lts.Else5 Learnt reads.Pre reads.Post) → After (call-5 (c .before)) 9
+unfolding neckRules setupRules
+after-9 c = row-passed (after-8 (c .before .before)) (tip-judged (c .before)) (c .if5 .left)
+
+returns : tie.Need-returns
+unfolding neckRules
+returns c = let n = c .before .setup-refusal .result in turned-down (call (c .before)) n (setup-refused (call (c .before) .args .setup) n (c .before .setup-refusal .ensures) _ (c .if1 .taken)) (c .if1 .taken)
+
+returns-2 : tie.Need-returns-2
+unfolding neckRules setupRules
+returns-2 c = turned-down (call-1 (c .before .before)) 6 (row-holds-not (after-5 (c .before .before)) (c .before .three-lengths-ok .ensures) (c .if2 .taken)) (λ z. omega arith)
+
+returns-3 : tie.Need-returns-3
+unfolding neckRules setupRules
+returns-3 c = turned-down (call-2 (c .before .before)) 7 (row-holds-not (after-6 (c .before .before)) (c .before .heights-ok .ensures) (c .if3 .taken)) (λ z. omega arith)
+
+returns-4 : tie.Need-returns-4
+unfolding neckRules setupRules
+returns-4 c = turned-down (call-3 (c .before .before)) 8 (row-holds (after-7 (c .before .before)) (c .before .frets-wrong .ensures) (c .if4 .taken)) (λ z. omega arith)
+
+returns-5 : tie.Need-returns-5
+unfolding neckRules setupRules
+returns-5 c = turned-down (call-4 (c .before .before)) 9 (row-holds (after-8 (c .before .before)) (tip-judged (c .before)) (c .if5 .taken)) (λ z. omega arith)
+
+returns-6 : tie.Need-returns-6
+unfolding lay neckRules setupRules
+returns-6 c =
+    let written = c .before .before .before in
+    let passed = written .before .before .before in
+    let a = call-5 (passed .before) in
+    let neck = laid (a .args .setup) (plan a) in
+    ap laidResult (rw (toZ-ofZ (a .fits .tip)) at (written .write-neck .ensures)) ∙ made-by (rules a) (laidResult neck) _ (after-9 passed .number)
+
+write-neck-requires : tie.Need-write-neck-requires
+write-neck-requires c κs =
+    let sized = c .before .before .before .before .before .before .before .before in
+    let l = lengths sized in
+    (omega (arith, facts (sized .before .before) .segments-low), l .0, l .1 .0, l .1 .1 .0)
+
+pub lay-neck-spec : {M : Type 1} → statement M
+lay-neck-spec =
+    tie.close
+    (tie.spec
+    (λ c κs. tt)
+    returns
+    (λ c κs. omega (arith, facts c .segments-low))
+    returns-2
+    (λ c κs. tt)
+    returns-3
+    (λ c κs. tt)
+    returns-4
+    (λ c κs. on-board c)
+    returns-5
+    write-neck-requires
+    (λ c. search needs)
+    (λ c. search needs)
+    returns-6)
