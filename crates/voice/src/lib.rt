@@ -1,4 +1,18 @@
-// The string voice: what a caller may do. Each operation has a crate of its own, and its contract stands there.
-pub use voice_neck::lay_neck;
+// The string voice: what a caller may do, and the types of its arguments and answers. Each operation stands in a crate of its own, with its contract.
+
+// 01, 'Setup': examines a setup.
 pub use voice_setup::check_setup;
+
+// 01, 'Laying the neck': writes heights and stiffness from the board and the frets.
+pub use voice_neck::lay_neck;
+
+// 01, 'One step': clears strings and contact variables, and gives turn and finger.
 pub use voice_start::fresh_start;
+
+pub use model::Finger;
+pub use model::FingerSetup;
+pub use model::NeckAnswer;
+pub use model::Setup;
+pub use model::SetupAnswer;
+pub use model::StartAnswer;
+pub use model::Started;

@@ -7,14 +7,14 @@ ghost use Rattle.model.specs.Setup.{N, lengthOk};
 use model::Setup;
 
 pub fn length_ok(setup: Setup, length: usize) -> bool
-    requires { ⌜ 1 ≤ N setup ⌝ }
+    requires { ⌜ 2 ≤ N setup ⌝ }
     ensures { λ r. ⌜ r ≡ lengthOk setup length ⌝ }
 {
     length == (setup.segments - 1) as usize
 }
 
 pub fn three_lengths_ok(setup: Setup, first: usize, second: usize, third: usize) -> bool
-    requires { ⌜ 1 ≤ N setup ⌝ }
+    requires { ⌜ 2 ≤ N setup ⌝ }
     ensures { λ r. ⌜ r ≡ all (lengthOk setup) (first ∷ second ∷ third ∷ []) ⌝ }
 {
     let first_ok = length_ok(setup, first);

@@ -117,9 +117,9 @@ module _ (c : lts.After-tip-wrong Learnt reads.Pre reads.Post) where
   tip-judged : c .tip-wrong .result ≡ any (λ i. ltZ (pos 0) (call-5 .args .tip) || ltZ (call-5 .args .tip) (at (call-5 .args .board .now) i)) (call-5 .args .frets .now)
   tip-judged = rw (toZ-ofZ (call-5 .fits .tip)) at (c .tip-wrong .ensures)
 
-after-9 : (c : lts.Else5 Learnt reads.Pre reads.Post) → After (call-5 (c .before)) 9
+no-refusal : (c : lts.Else5 Learnt reads.Pre reads.Post) → firstOf (rules (call-5 (c .before))) ≡ 0
 unfolding neckRules setupRules
-after-9 c = row-passed (after-8 (c .before .before)) (tip-judged (c .before)) (c .if5 .left)
+no-refusal c = row-passed (after-8 (c .before .before)) (tip-judged (c .before)) (c .if5 .left) .number
 
 returns : tie.Need-returns
 unfolding neckRules
@@ -141,20 +141,23 @@ returns-5 : tie.Need-returns-5
 unfolding neckRules setupRules
 returns-5 c = turned-down (call-4 (c .before .before)) 9 (row-holds (after-8 (c .before .before)) (tip-judged (c .before)) (c .if5 .taken)) (λ z. omega arith)
 
+-- the neck that was written is the one planned
+neck-written : (c : lts.After-write-neck Learnt reads.Pre reads.Post) → _≡_ {A = Neck} (record { heights = c .write-neck .last .1 .1 .1 .1 .1 .1 .0; stiffness = c .write-neck .last .1 .1 .1 .1 .1 .1 .1 .0 }) (laid (call-5 (c .before .before .before .before) .args .setup) (plan (call-5 (c .before .before .before .before))))
+neck-written c = rw (toZ-ofZ (call-5 (c .before .before .before .before) .fits .tip)) at (c .write-neck .ensures)
+
 returns-6 : tie.Need-returns-6
-unfolding lay neckRules setupRules
+unfolding lay
 returns-6 c =
     let written = c .before .before .before in
     let passed = written .before .before .before in
     let a = call-5 (passed .before) in
-    let neck = laid (a .args .setup) (plan a) in
-    ap laidResult (rw (toZ-ofZ (a .fits .tip)) at (written .write-neck .ensures)) ∙ made-by (rules a) (laidResult neck) _ (after-9 passed .number)
+    ap laidResult (neck-written written) ∙ made-by (rules a) (laidResult (laid (a .args .setup) (plan a))) _ (no-refusal passed)
 
 write-neck-requires : tie.Need-write-neck-requires
 write-neck-requires c κs =
     let sized = c .before .before .before .before .before .before .before .before in
     let l = lengths sized in
-    (omega (arith, facts (sized .before .before) .segments-low), l .0, l .1 .0, l .1 .1 .0)
+    (facts (sized .before .before) .segments-low, l .0, l .1 .0, l .1 .1 .0)
 
 pub lay-neck-spec : {M : Type 1} → statement M
 lay-neck-spec =
@@ -162,7 +165,7 @@ lay-neck-spec =
     (tie.spec
     (λ c κs. tt)
     returns
-    (λ c κs. omega (arith, facts c .segments-low))
+    (λ c κs. facts c .segments-low)
     returns-2
     (λ c κs. tt)
     returns-3

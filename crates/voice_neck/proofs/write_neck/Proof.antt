@@ -77,7 +77,7 @@ write-neck-spec =
     (tie.spec
     Inv-loop
     μ-loop
-    (λ c. c .before .before .before .pre .0)
+    (λ c. omega (arith, c .before .before .before .pre .0))
     (λ c. omega arith)
     (λ c. (filled-none (c .before .before .before .pre .2), filled-none (c .before .before .before .pre .3)))
     (λ c. omega (arith, in-heights c))

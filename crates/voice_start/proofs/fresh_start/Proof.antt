@@ -34,8 +34,9 @@ module _ (c : lts.Start Learnt reads.Pre reads.Post) where
   abbrev rules : List Rule
   rules = startRules (c .args .setup) (c .args .first .now) (c .args .second .now) (c .args .contact .now) (c .args .height) (c .args .older)
 
-  abbrev buffers : List ℕ
-  buffers = length (c .args .first .now) ∷ length (c .args .second .now) ∷ length (c .args .contact .now) ∷ []
+  -- the rows below the k-th
+  abbrev After : ℕ → Type 0
+  After k = Reached rules (drop k rules)
 
   abbrev result : StartResult
   result = start (c .args .setup) (c .args .first .now) (c .args .second .now) (c .args .contact .now) (c .args .height) (c .args .older)
@@ -44,29 +45,42 @@ module _ (c : lts.Start Learnt reads.Pre reads.Post) where
   unfolding start
   turned-down n e h = refused-by rules _ _ n e h
 
-after-5 : (c : lts.Else1 Learnt reads.Pre reads.Post) → Reached (rules (c .before .before)) (drop 5 (rules (c .before .before)))
-unfolding startRules setupRules
-after-5 c = setup-reached (c .before .before .args .setup) (c .before .setup-refusal .result) (c .before .setup-refusal .ensures) _ (c .if1 .left)
+module _ (c : lts.Else1 Learnt reads.Pre reads.Post) where
+  abbrev call-1 : lts.Start Learnt reads.Pre reads.Post
+  call-1 = c .before .before
 
-after-6 : (c : lts.Else2 Learnt reads.Pre reads.Post) → Reached (rules (c .before .before .before .before)) (drop 6 (rules (c .before .before .before .before)))
-unfolding startRules setupRules
-after-6 c = row-passed-not (after-5 (c .before .before)) (c .before .three-lengths-ok .ensures) (c .if2 .left)
+  facts : SetupFacts (call-1 .args .setup)
+  facts = setup-facts (call-1 .args .setup) (setup-passed (call-1 .args .setup) (c .before .setup-refusal .result) (c .before .setup-refusal .ensures) (c .if1 .left))
+
+  after-5 : After call-1 5
+  unfolding startRules setupRules
+  after-5 = setup-reached (call-1 .args .setup) (c .before .setup-refusal .result) (c .before .setup-refusal .ensures) _ (c .if1 .left)
+
+module _ (c : lts.Else2 Learnt reads.Pre reads.Post) where
+  abbrev call-2 : lts.Start Learnt reads.Pre reads.Post
+  call-2 = call-1 (c .before .before)
+
+  after-6 : After call-2 6
+  unfolding startRules setupRules
+  after-6 = row-passed-not (after-5 (c .before .before)) (c .before .three-lengths-ok .ensures) (c .if2 .left)
+
+  abbrev buffers : List ℕ
+  buffers = length (call-2 .args .first .now) ∷ length (call-2 .args .second .now) ∷ length (call-2 .args .contact .now) ∷ []
+
+  lengths : Every (λ n. n ≡ points (call-2 .args .setup)) buffers
+  lengths = right-lengths (call-2 .args .setup) buffers (rw (← c .before .three-lengths-ok .ensures, c .if2 .left) tt)
 
 module _ (c : lts.After-finger-ok Learnt reads.Pre reads.Post) where
-  abbrev called : lts.Start Learnt reads.Pre reads.Post
-  called = c .before .before .before .before .before
+  abbrev call-3 : lts.Start Learnt reads.Pre reads.Post
+  call-3 = call-2 (c .before)
 
-  judged : c .finger-ok .result ≡ (inside (pos 0) (called .args .height) (pos 1048576) && displacementOk (called .args .older))
-  judged = rw (toZ-ofZ (called .fits .height), toZ-ofZ (called .fits .older)) at (c .finger-ok .ensures)
+  -- of the heights as they were given
+  finger-judged : c .finger-ok .result ≡ (inside (pos 0) (call-3 .args .height) (pos 1048576) && displacementOk (call-3 .args .older))
+  finger-judged = rw (toZ-ofZ (call-3 .fits .height), toZ-ofZ (call-3 .fits .older)) at (c .finger-ok .ensures)
 
--- every row is passed
-module _ (c : lts.Else3 Learnt reads.Pre reads.Post) where
-  after-7 : Reached (rules (called (c .before))) []
-  unfolding startRules setupRules
-  after-7 = row-passed-not (after-6 (c .before .before)) (judged (c .before)) (c .if3 .left)
-
-  lengths : Every (λ n. n ≡ points (called (c .before) .args .setup)) (buffers (called (c .before)))
-  lengths = let a = called (c .before) in right-lengths (a .args .setup) (buffers a) (rw (← c .before .before .before .three-lengths-ok .ensures, c .before .before .if2 .left) tt)
+no-refusal : (c : lts.Else3 Learnt reads.Pre reads.Post) → firstOf (rules (call-3 (c .before))) ≡ 0
+unfolding startRules setupRules
+no-refusal c = row-passed-not (after-6 (c .before .before)) (finger-judged (c .before)) (c .if3 .left) .number
 
 returns : tie.Need-returns
 unfolding startRules
@@ -74,24 +88,22 @@ returns c = let n = c .before .setup-refusal .result in turned-down (c .before .
 
 returns-2 : tie.Need-returns-2
 unfolding startRules setupRules
-returns-2 c = turned-down (c .before .before .before .before) 6 (row-holds-not (after-5 (c .before .before)) (c .before .three-lengths-ok .ensures) (c .if2 .taken)) (λ z. omega arith)
+returns-2 c = turned-down (call-1 (c .before .before)) 6 (row-holds-not (after-5 (c .before .before)) (c .before .three-lengths-ok .ensures) (c .if2 .taken)) (λ z. omega arith)
 
 returns-3 : tie.Need-returns-3
 unfolding startRules setupRules
-returns-3 c = turned-down (called (c .before)) 10 (row-holds-not (after-6 (c .before .before)) (judged (c .before)) (c .if3 .taken)) (λ z. omega arith)
+returns-3 c = turned-down (call-2 (c .before .before)) 10 (row-holds-not (after-6 (c .before .before)) (finger-judged (c .before)) (c .if3 .taken)) (λ z. omega arith)
 
 returns-4 : tie.Need-returns-4
 unfolding start fresh
 returns-4 c =
-    let judged-call = c .before .before .before .before .before .before .before .before .before in
-    let first = c .before .before .before .before .before .before .before in
     let second = c .before .before .before .before in
-    let a = called (judged-call .before) in
-    rw (toZ-ofZ (a .fits .height), toZ-ofZ (a .fits .older), first .clear .ensures, second .clear2 .ensures, c .before .clear3 .ensures, lengths judged-call .0, lengths judged-call .1 .0, lengths judged-call .1 .1 .0)
-        (made-by (rules a) (startedResult (fresh (a .args .setup) (a .args .height) (a .args .older))) _ (after-7 judged-call .number))
-
-three-lengths-ok-requires : tie.Need-three-lengths-ok-requires
-three-lengths-ok-requires c κs = let s = c .before .before .args .setup in omega (arith, setup-facts s (setup-passed s (c .before .setup-refusal .result) (c .before .setup-refusal .ensures) (c .if1 .left)) .segments-low)
+    let first = second .before .before .before in
+    let passed = first .before .before in
+    let a = call-3 (passed .before) in
+    let l = lengths (passed .before .before) in
+    rw (toZ-ofZ (a .fits .height), toZ-ofZ (a .fits .older), first .clear .ensures, second .clear2 .ensures, c .before .clear3 .ensures, l .0, l .1 .0, l .1 .1 .0)
+        (made-by (rules a) (startedResult (fresh (a .args .setup) (a .args .height) (a .args .older))) _ (no-refusal passed))
 
 pub fresh-start-spec : {M : Type 1} → statement M
 fresh-start-spec =
@@ -99,7 +111,7 @@ fresh-start-spec =
     (tie.spec
     (λ c κs. tt)
     returns
-    three-lengths-ok-requires
+    (λ c κs. facts c .segments-low)
     returns-2
     (λ c κs. tt)
     returns-3

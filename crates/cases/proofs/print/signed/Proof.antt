@@ -1,0 +1,40 @@
+-- The number and its negative fit 64 bits.
+use mathlib.Core.List.{[], _∷_}
+use borrow.Author.Needs.{needs}
+use lib.IntN.{pos}
+use mir.Syntax.{w32, w64}
+use Rattle.integers.specs.Solve.{_⊖_, #_}
+use Rattle.integers.specs.Derive.{_≼_, _≺_, _⊢_, times, deduce}
+use Rattle.integers.specs.Machine.{var, lit, cast, _⊟_, ∅, _▸_, fits, index, if-lt, else-lt}
+use Rattle.cases.proofs.print.signed.Statement.{statement}
+use Rattle.cases.proofs.print.signed.Tie as tie
+
+cast-wide : tie.Need-cast-wide
+cast-wide c = fits (c .fits .x ▸ ∅) w64 (cast w32 (var 0)) tt
+
+sub-unsigned : tie.Need-sub-unsigned
+sub-unsigned c = fits (c .before .before .before .fits .x ▸ ∅) w64 (lit (pos 0) ⊟ cast w32 (var 0)) tt
+
+cast-unsigned : tie.Need-cast-unsigned
+cast-unsigned c =
+    let ρ = c .before .before .before .fits .x ▸ ∅ in
+    let below = if-lt ρ w64 (cast w32 (var 0)) (lit (pos 0)) tt (c .before .before .if1 .taken) in
+    index ρ w64 w64 (lit (pos 0) ⊟ cast w32 (var 0)) tt tt (deduce 1 (λ x. times 1 (x ≺ # 0) ∷ [] ⊢ # 0 ≼ # 0 ⊖ x) tt (c .before .before .before .args .x) below)
+
+cast-unsigned-2 : tie.Need-cast-unsigned-2
+cast-unsigned-2 c = let ρ = c .before .fits .x ▸ ∅ in index ρ w64 w64 (cast w32 (var 0)) tt tt (else-lt ρ w64 (cast w32 (var 0)) (lit (pos 0)) tt (c .if1 .left))
+
+pub signed-spec : {M : Type 1} → statement M
+signed-spec =
+    tie.close
+    (tie.spec
+    cast-wide
+    (λ c. search needs)
+    (λ c κs. tt)
+    sub-unsigned
+    cast-unsigned
+    (λ c κs. tt)
+    cast-unsigned-2
+    (λ c κs. tt)
+    (λ c. search needs)
+    (λ c. search needs))
