@@ -11,6 +11,12 @@ fn four_segments() -> Setup {
     setup
 }
 
+fn one_segment() -> Setup {
+    let mut setup = bench();
+    setup.segments = 1;
+    setup
+}
+
 fn report(name: &[u8], answer: NeckAnswer, heights: &[i32], stiffness: &[u16]) {
     let number = match answer {
         NeckAnswer::Accepted => 0,
@@ -46,8 +52,17 @@ fn long_list(name: &[u8], frets: &[u32]) {
     report(name, answer, &heights[23..26], &stiffness[23..26]);
 }
 
+// Places 1 to 25.
+fn first_places() -> [u32; 25] {
+    let mut places = [0; 25];
+    for i in 0..25 {
+        places[i] = i as u32 + 1;
+    }
+    places
+}
+
 fn longest_lists() {
-    let frets = [1, 2, 3, 4, 5, 6, 7, 8, 9, 10, 11, 12, 13, 14, 15, 16, 17, 18, 19, 20, 21, 22, 23, 24, 25];
+    let frets = first_places();
     long_list(b"with 24 frets", &frets[..24]);
     long_list(b"with 25 frets", &frets);
 }
@@ -56,7 +71,16 @@ fn short_buffer() {
     let board = [0; 3];
     let mut heights = [1; 3];
     let mut stiffness = [2u16; 2];
-    let answer = lay_neck(four_segments(), &board, 7, &[], 0, 9, &mut heights, &mut stiffness);
+    let answer = lay_neck(
+        four_segments(),
+        &board,
+        7,
+        &[],
+        0,
+        9,
+        &mut heights,
+        &mut stiffness,
+    );
     report(b"two stiffnesses", answer, &heights, &stiffness);
 }
 
@@ -67,12 +91,18 @@ fn laid() {
     case(b"with frets at both ends", setup, &board, &[1, 3], 0);
     case(b"with the tip on the board", setup, &board, &[1, 2], -10);
     case(b"with no fret, tip at 1", setup, &board, &[], 1);
-    case(b"at the lowest board", setup, &[-1048576, 0, 0], &[1], -1048576);
+    case(
+        b"at the lowest board",
+        setup,
+        &[-1048576, 0, 0],
+        &[1],
+        -1048576,
+    );
 }
 
 fn wrong_boards() {
     let setup = four_segments();
-    case(b"N 1", Setup { segments: 1, ..setup }, &[-10, -20, -30], &[2], -5);
+    case(b"N 1", one_segment(), &[-10, -20, -30], &[2], -5);
     case(b"board of two", setup, &[-10, -20], &[2], -5);
     case(b"board at 1", setup, &[-10, 1, -30], &[2], -5);
     case(b"board at -1048577", setup, &[-10, -1048577, -30], &[2], -5);

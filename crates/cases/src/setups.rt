@@ -13,7 +13,11 @@ pub fn bench() -> Setup {
         stiffness: 0,
         viscous: 0,
         plain: 0,
-        finger: FingerSetup { place: 1, stiffness: 0, mass: 4096 },
+        finger: FingerSetup {
+            place: 1,
+            stiffness: 0,
+            mass: 4096,
+        },
         pluck_place: 1,
         bridge_place: 1,
         neck_place: 1,

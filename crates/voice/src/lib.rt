@@ -7,8 +7,6 @@ pub use voice_setup::check_setup;
 pub use voice_neck::lay_neck;
 
 // 01, 'One step': clears strings and contact variables, and gives turn and finger.
-pub use voice_start::fresh_start;
-
 pub use model::Finger;
 pub use model::FingerSetup;
 pub use model::NeckAnswer;
@@ -16,3 +14,4 @@ pub use model::Setup;
 pub use model::SetupAnswer;
 pub use model::StartAnswer;
 pub use model::Started;
+pub use voice_start::fresh_start;

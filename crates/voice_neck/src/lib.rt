@@ -83,6 +83,15 @@ pub fn lay_neck(
     if tip_wrong(board, frets, tip) {
         return NeckAnswer::Refused(9);
     }
-    write_neck(setup, board, board_stiffness, frets, tip, fret_stiffness, heights, stiffness);
+    write_neck(
+        setup,
+        board,
+        board_stiffness,
+        frets,
+        tip,
+        fret_stiffness,
+        heights,
+        stiffness,
+    );
     NeckAnswer::Accepted
 }

@@ -31,7 +31,14 @@ fn clear(numbers: &mut [i32])
 }
 
 // Clears the three lent buffers and answers turn and finger, or answers the number and leaves them.
-pub fn fresh_start(setup: Setup, first: &mut [i32], second: &mut [i32], contact: &mut [i32], height: i32, older: i32) -> StartAnswer
+pub fn fresh_start(
+    setup: Setup,
+    first: &mut [i32],
+    second: &mut [i32],
+    contact: &mut [i32],
+    height: i32,
+    older: i32,
+) -> StartAnswer
     ensures { λ r. ⌜ startResult r (now (first .exit)) (now (second .exit)) (now (contact .exit))
         ≡ start setup (now (first .entry)) (now (second .entry)) (now (contact .entry)) height older ⌝ }
 {
@@ -48,5 +55,12 @@ pub fn fresh_start(setup: Setup, first: &mut [i32], second: &mut [i32], contact:
     clear(first);
     clear(second);
     clear(contact);
-    StartAnswer::Accepted(Started { turn: 0, finger: Finger { newer: height, older, contact: 0 } })
+    StartAnswer::Accepted(Started {
+        turn: 0,
+        finger: Finger {
+            newer: height,
+            older,
+            contact: 0,
+        },
+    })
 }

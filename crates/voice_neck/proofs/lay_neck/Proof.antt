@@ -1,16 +1,14 @@
 -- The table is gone through row by row; a passed table leads to the neck as planned.
-use mathlib.Core.Path.{_≡_, refl, sym, _∙_, ap}
-use mathlib.Core.Bool.{Bool, _||_, not}
+use mathlib.Core.Path.{_≡_, _∙_, ap}
+use mathlib.Core.Bool.{_||_, not}
 use mathlib.Core.List.{List, [], _∷_}
 use Prim.Native.Nat.{ℕ}
 use native.Mathlib.Omega.{arith}
 use borrow.Author.Needs.{needs}
 use lib.Dec.{T, ltb}
-use lib.IntN.{ℤ, pos}
+use lib.IntN.{pos}
 use lib.ListN.{length, drop}
 use lib.Signed.{ltZ}
-use mir.Syntax.{w32}
-use mir.Val.{toZ, ofZ}
 use mir.Facts.{toZ-ofZ, or-no, T-not-not}
 use Rattle.model.specs.Answers.{neckResult}
 use Rattle.model.specs.Differences.{at}
@@ -19,7 +17,6 @@ use Rattle.model.specs.Ranges.{all, any, between}
 use Rattle.model.specs.Refusal.{Rule, firstOf}
 use Rattle.model.specs.Setup.{points, placeOk, setupRules}
 use Rattle.model.specs.State.{Neck}
-use Rattle.model.specs.declared.Setup.{Setup}
 use Rattle.model.specs.declared.NeckAnswer.the-variants.{Refused}
 use Rattle.promises.specs.Promises.{Every}
 use Rattle.laws.specs.Accepted.{SetupFacts, setup-facts, setup-passed, setup-reached, setup-refused, right-lengths}

@@ -1,17 +1,16 @@
 -- The loop's invariant: the points below index i are laid, in both buffers.
-use mathlib.Core.Path.{_≡_, refl, sym, _∙_, ap₂}
-use mathlib.Core.Bool.{Bool, true, false, cond}
+use mathlib.Core.Path.{_≡_, refl, sym, _∙_, ap, ap₂}
+use mathlib.Core.Bool.{cond}
 use mathlib.Core.List.{List}
 use mathlib.Core.Logic.{⊎-elim}
-use Prim.Native.Nat.{ℕ, suc, _-_, _≤_, _<_}
-use native.Mathlib.Numerals.{add-one}
+use Prim.Native.Nat.{ℕ, suc, _+_, _-_, _<_}
 use native.Mathlib.Omega.{arith}
 use borrow.Author.Needs.{sfits-of}
 use lib.Dec.{eqb}
-use lib.IntN.{ℤ, pos}
-use lib.ListN.{length, getD}
+use lib.IntN.{pos}
+use lib.ListN.{length}
 use mir.Syntax.{w32}
-use mir.Val.{toZ, ofZ}
+use mir.Val.{toZ}
 use mir.Facts.{toZ-ofZ}
 use Rattle.integers.specs.Filled.{Filled, filled-none, filled-more, filled-all}
 use Rattle.model.specs.Differences.{at}
@@ -49,11 +48,13 @@ module _ (c : lts.In-loop Learnt reads.Pre reads.Post Inv-loop μ-loop) where
   in-stiffness = rw (c .before .loop .inv .1 .len) (c .loop-test .taken)
 
   in-board : i < length (c .before .before .before .before .before .args .board .now)
-  in-board = rw (c .before .before .before .before .before .pre .1) (c .loop-test .taken)
+  in-board = omega (arith, c .before .before .before .before .before .pre .1)
 
 -- whether the point of a turn has a fret
 fretted : (c : lts.After-fret-at Learnt reads.Pre reads.Post Inv-loop μ-loop) → any (eqb (suc (i (c .before)))) (c .before .before .before .before .before .before .args .frets .now) ≡ c .fret-at .result
-fretted c = sym (rw add-one at (c .fret-at .ensures))
+fretted c =
+    let place : i (c .before) + 1 ≡ suc (i (c .before)) = omega arith in
+    sym (c .fret-at .ensures ∙ ap (λ k. any (eqb k) (c .before .before .before .before .before .before .args .frets .now)) place)
 
 loop-again : tie.Need-loop-again Inv-loop μ-loop
 loop-again c =

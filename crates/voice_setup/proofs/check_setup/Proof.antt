@@ -1,6 +1,6 @@
 -- `check_setup` meets its contract.
 use mathlib.Core.Path.{sym, _∙_}
-use Rattle.model.specs.Refusal.{Answer, accepted, refused}
+use Rattle.model.specs.Refusal.{accepted, refused}
 use Rattle.model.specs.Setup.{setupRules, setup}
 use Rattle.laws.specs.Refusals.{made-by, refused-by}
 use Rattle.voice_setup.proofs.check_setup.Statement.{statement}

@@ -1,6 +1,6 @@
 -- `all` over a visible list ends in `&& true`.
-use mathlib.Core.Path.{_≡_, refl, sym}
-use mathlib.Core.Bool.{_&&_, and-true}
+use mathlib.Core.Path.{refl}
+use mathlib.Core.Bool.{and-true}
 use Rattle.voice_setup.proofs.places_ok.Statement.{statement}
 use Rattle.voice_setup.proofs.places_ok.Tie as tie
 

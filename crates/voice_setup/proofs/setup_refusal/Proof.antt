@@ -1,8 +1,8 @@
 -- The table is gone through row by row: where a row does not hold, the rows below it give the number.
-use mathlib.Core.Path.{_≡_, refl, sym, _∙_}
+use mathlib.Core.Path.{sym}
 use Prim.Native.Nat.{ℕ}
 use lib.ListN.{drop}
-use Rattle.model.specs.Setup.{L, M, S, Z, setupRules}
+use Rattle.model.specs.Setup.{setupRules}
 use Rattle.laws.specs.Refusals.{Reached, reached-top, row-passed, row-passed-not, row-holds, row-holds-not}
 use Rattle.laws.specs.Accepted.{small-coefficients}
 use Rattle.voice_setup.proofs.setup_refusal.Statement.{statement}

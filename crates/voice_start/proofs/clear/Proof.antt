@@ -1,5 +1,5 @@
 -- The loop's invariant: the numbers below i are 0.
-use mathlib.Core.Path.{_≡_, refl, sym, ap, _∙_}
+use mathlib.Core.Path.{refl, _∙_}
 use Prim.Native.Nat.{_-_}
 use native.Mathlib.Omega.{arith}
 use lib.IntN.{pos}
@@ -15,7 +15,7 @@ abbrev μ-loop : tie.MeasureT-loop
 μ-loop numbers₀ i₀ i-end numbers i = length numbers₀ - i
 
 loop-again : tie.Need-loop-again Inv-loop μ-loop
-loop-again c = filled-more (c .loop-test .taken) (c .before .loop .inv) refl
+loop-again c = filled-more (omega arith) (c .before .loop .inv) refl
 
 returns : tie.Need-returns Inv-loop μ-loop
 returns c = filled-all (c .loop-test .left) (c .before .loop .inv) ∙ tabulate-same (length (c .before .before .args .numbers .now)) (pos 0)

@@ -1,5 +1,7 @@
 -- `finger_ok` meets its contract.
-use mathlib.Core.Path.{_≡_, refl}
+use mathlib.Core.Path.{_∙_, ap}
+use mathlib.Core.Bool.{_&&_}
+use lib.IntN.{pos}
 use mir.Facts.{toZ-ofZ}
 use Rattle.model.specs.Ranges.{inside, displacementOk}
 use Rattle.voice_start.proofs.finger_ok.Statement.{statement}
@@ -7,7 +9,7 @@ use Rattle.voice_start.proofs.finger_ok.Tie as tie
 
 returns : tie.Need-returns
 unfolding inside
-returns c = let older : c .displacement-ok .result ≡ displacementOk (c .before .args .older) = rw (toZ-ofZ (c .before .fits .older)) at (c .displacement-ok .ensures) in rw (toZ-ofZ (c .before .fits .height), older) refl
+returns c = let older = c .displacement-ok .ensures ∙ ap displacementOk (toZ-ofZ (c .before .fits .older)) in rw (toZ-ofZ (c .before .fits .height)) (ap (λ ok. inside (pos 0) (c .before .args .height) (pos 1048576) && ok) older)
 
 pub finger-ok-spec : {M : Type 1} → statement M
 finger-ok-spec = tie.close (tie.spec (λ c κs. tt) returns)

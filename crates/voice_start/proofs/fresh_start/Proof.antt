@@ -1,20 +1,19 @@
 -- The table is gone through row by row; a passed table leads to the three cleared buffers.
-use mathlib.Core.Path.{_≡_, refl, sym, _∙_}
+use mathlib.Core.Path.{_≡_, _∙_, ap}
 use mathlib.Core.Bool.{_&&_}
 use mathlib.Core.List.{List, [], _∷_}
 use Prim.Native.Nat.{ℕ}
 use native.Mathlib.Omega.{arith}
 use borrow.Author.Needs.{needs}
 use lib.IntN.{ℤ, pos}
-use lib.ListN.{length, drop}
+use lib.ListN.{length, drop, replicate}
 use mir.Facts.{toZ-ofZ}
 use Rattle.model.specs.Answers.{startResult}
 use Rattle.model.specs.Ranges.{inside, displacementOk}
-use Rattle.model.specs.Refusal.{Rule, firstOf, Answer, refused}
+use Rattle.model.specs.Refusal.{Rule, firstOf}
 use Rattle.model.specs.Setup.{points, setupRules}
 use Rattle.model.specs.Start.{fresh, StartResult, startedResult, startRules, start}
-use Rattle.model.specs.declared.Setup.{Setup}
-use Rattle.model.specs.declared.StartAnswer.the-variants.{Refused}
+use Rattle.model.specs.declared.StartAnswer.the-variants.{Accepted, Refused}
 use Rattle.promises.specs.Promises.{Every}
 use Rattle.laws.specs.Accepted.{SetupFacts, setup-facts, setup-passed, setup-reached, setup-refused, right-lengths}
 use Rattle.laws.specs.Refusals.{Reached, row-passed-not, row-holds-not, made-by, refused-by}
@@ -44,6 +43,15 @@ module _ (c : lts.Start Learnt reads.Pre reads.Post) where
   turned-down : (n : ℕ) → firstOf rules ≡ n → (n ≡ 0 → ⊥) → startResult (Refused n) (c .args .first .now) (c .args .second .now) (c .args .contact .now) ≡ result
   unfolding start
   turned-down n e h = refused-by rules _ _ n e h
+
+  -- three cleared buffers are those of the fresh start
+  abbrev Cleared : List ℤ → Type 0
+  Cleared xs = xs ≡ replicate (points (c .args .setup)) (pos 0)
+
+  started : firstOf rules ≡ 0 → {first second contact : List ℤ} → Cleared first → Cleared second → Cleared contact
+      → startResult (Accepted (record { turn = 0; finger = record { newer = c .args .height; older = c .args .older; contact = pos 0 } })) first second contact ≡ result
+  unfolding start fresh
+  started n e f g = rw (e, f, g) (made-by rules (startedResult (fresh (c .args .setup) (c .args .height) (c .args .older))) _ n)
 
 module _ (c : lts.Else1 Learnt reads.Pre reads.Post) where
   abbrev call-1 : lts.Start Learnt reads.Pre reads.Post
@@ -95,15 +103,14 @@ unfolding startRules setupRules
 returns-3 c = turned-down (call-2 (c .before .before)) 10 (row-holds-not (after-6 (c .before .before)) (finger-judged (c .before)) (c .if3 .taken)) (λ z. omega arith)
 
 returns-4 : tie.Need-returns-4
-unfolding start fresh
 returns-4 c =
     let second = c .before .before .before .before in
     let first = second .before .before .before in
     let passed = first .before .before in
     let a = call-3 (passed .before) in
     let l = lengths (passed .before .before) in
-    rw (toZ-ofZ (a .fits .height), toZ-ofZ (a .fits .older), first .clear .ensures, second .clear2 .ensures, c .before .clear3 .ensures, l .0, l .1 .0, l .1 .1 .0)
-        (made-by (rules a) (startedResult (fresh (a .args .setup) (a .args .height) (a .args .older))) _ (no-refusal passed))
+    let zeros : ℕ → List ℤ = λ n. replicate n (pos 0) in
+    rw (toZ-ofZ (a .fits .height), toZ-ofZ (a .fits .older)) (started a (no-refusal passed) (first .clear .ensures ∙ ap zeros (l .0)) (second .clear2 .ensures ∙ ap zeros (l .1 .0)) (c .before .clear3 .ensures ∙ ap zeros (l .1 .1 .0)))
 
 pub fresh-start-spec : {M : Type 1} → statement M
 fresh-start-spec =
