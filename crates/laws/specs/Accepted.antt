@@ -81,6 +81,9 @@ module _ (s : Setup) (n : ℕ) (e : n ≡ firstOf (setupRules s)) where
   unfolding setupRules
   setup-passed z = passed (setupRules s) tt (sym e ∙ z)
 
+  pub setup-accepted : n ≡ 0 → SetupFacts s
+  setup-accepted z = setup-facts s (setup-passed z)
+
   pub setup-reached : (rules : List Rule) → n ≡ 0 → Reached (setupRules s ++ rules) rules
   setup-reached rules z = reached-back (setupRules s) rules (setup-passed z)
 

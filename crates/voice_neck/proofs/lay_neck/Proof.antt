@@ -19,7 +19,7 @@ use Rattle.model.specs.Setup.{points, placeOk, setupRules}
 use Rattle.model.specs.State.{Neck}
 use Rattle.model.specs.declared.NeckAnswer.the-variants.{Refused}
 use Rattle.promises.specs.Promises.{Every}
-use Rattle.laws.specs.Accepted.{SetupFacts, setup-facts, setup-passed, setup-reached, setup-refused, right-lengths}
+use Rattle.laws.specs.Accepted.{SetupFacts, setup-accepted, setup-reached, setup-refused, right-lengths}
 use Rattle.laws.specs.Refusals.{Reached, row-passed, row-passed-not, row-holds, row-holds-not, made-by, refused-by}
 use Rattle.voice_neck.proofs.lay_neck.Statement.{statement}
 use Rattle.voice_neck.proofs.lay_neck.Tie as tie
@@ -61,7 +61,7 @@ module _ (c : lts.Else1 Learnt reads.Pre reads.Post) where
   call-1 = call (c .before)
 
   facts : SetupFacts (call-1 .args .setup)
-  facts = setup-facts (call-1 .args .setup) (setup-passed (call-1 .args .setup) (c .before .setup-refusal .result) (c .before .setup-refusal .ensures) (c .if1 .left))
+  facts = setup-accepted (call-1 .args .setup) (c .before .setup-refusal .result) (c .before .setup-refusal .ensures) (c .if1 .left)
 
   after-5 : After call-1 5
   unfolding neckRules setupRules

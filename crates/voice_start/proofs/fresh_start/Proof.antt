@@ -15,7 +15,7 @@ use Rattle.model.specs.Setup.{points, setupRules}
 use Rattle.model.specs.Start.{fresh, StartResult, startedResult, startRules, start}
 use Rattle.model.specs.declared.StartAnswer.the-variants.{Accepted, Refused}
 use Rattle.promises.specs.Promises.{Every}
-use Rattle.laws.specs.Accepted.{SetupFacts, setup-facts, setup-passed, setup-reached, setup-refused, right-lengths}
+use Rattle.laws.specs.Accepted.{SetupFacts, setup-accepted, setup-reached, setup-refused, right-lengths}
 use Rattle.laws.specs.Refusals.{Reached, row-passed-not, row-holds-not, made-by, refused-by}
 use Rattle.voice_start.proofs.fresh_start.Statement.{statement}
 use Rattle.voice_start.proofs.fresh_start.Tie as tie
@@ -58,7 +58,7 @@ module _ (c : lts.Else1 Learnt reads.Pre reads.Post) where
   call-1 = c .before .before
 
   facts : SetupFacts (call-1 .args .setup)
-  facts = setup-facts (call-1 .args .setup) (setup-passed (call-1 .args .setup) (c .before .setup-refusal .result) (c .before .setup-refusal .ensures) (c .if1 .left))
+  facts = setup-accepted (call-1 .args .setup) (c .before .setup-refusal .result) (c .before .setup-refusal .ensures) (c .if1 .left)
 
   after-5 : After call-1 5
   unfolding startRules setupRules
