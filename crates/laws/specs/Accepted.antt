@@ -1,6 +1,6 @@
 -- What an accepted operation has passed, and what it leads to.
 use mathlib.Core.Path.{_≡_, refl, sym, _∙_, ap}
-use mathlib.Core.Bool.{_||_, not, cond}
+use mathlib.Core.Bool.{not, cond}
 use mathlib.Core.List.{List, [], _∷_, _++_}
 use Prim.Native.Nat.{ℕ, zero, suc, _+_, _*_, _≤_, _<_}
 use native.Mathlib.Omega.{arith}
@@ -12,7 +12,7 @@ use Rattle.integers.specs.Filled.{length-tabulate, getD-tabulate}
 use Rattle.integers.specs.Tests.{is-true, is-false}
 use Rattle.model.specs.Ranges.{all, any, between}
 use Rattle.model.specs.Refusal.{Rule, firstOf, Answer, accepted, refused}
-use Rattle.model.specs.Setup.{N, L, M, S, Z, m, p, e, points, placeOk, lengthOk, setupRules, setup}
+use Rattle.model.specs.Setup.{N, L, M, S, Z, m, p, points, placeOk, lengthOk, coefficientWrong, ownPlaces, setupRules, setup}
 use Rattle.model.specs.Differences.{at}
 use Rattle.model.specs.State.{State, Lent, byTurn, newest, stateOf, put, Neck, Forces}
 use Rattle.model.specs.Step.{workedStep, nextState, buffersRule, callRules, resultRules, stepRules, frame, StepResult, step}
@@ -44,7 +44,7 @@ none-above [] t = tt
 none-above (n ∷ ns) t = let k = or-no (ltb 4096 n) (any (ltb 4096) ns) t in (ltb-no (k .0), none-above ns (k .1))
 
 -- of the row 2 that does not hold
-pub small-coefficients : (s : Setup) → T (not (eqb (L s) 0 || any (ltb 4096) (L s ∷ M s ∷ S s ∷ Z s ∷ []))) → Every (λ n. n ≤ 4096) (L s ∷ M s ∷ S s ∷ Z s ∷ [])
+pub small-coefficients : (s : Setup) → T (not (coefficientWrong s)) → Every (λ n. n ≤ 4096) (L s ∷ M s ∷ S s ∷ Z s ∷ [])
 small-coefficients s t = none-above (L s ∷ M s ∷ S s ∷ Z s ∷ []) (or-no (eqb (L s) 0) (any (ltb 4096) (L s ∷ M s ∷ S s ∷ Z s ∷ [])) t .1)
 
 pub sound : (s : Setup) (rules : List Rule) → Passed (setupRules s ++ rules) → SetupFacts s
@@ -54,7 +54,7 @@ sound s rules h =
     let segments = and-yes (leb 2 (N s)) (leb (N s) 128) (T-not-not (between 2 (N s) 128) (fails 1 table h)) in
     let coefficients = small-coefficients s (fails 2 table h) in
     let stable : L s + 4 * M s + 2 * S s ≤ 4096 = ltb-no (fails 3 table h) in
-    let places = all-yes (placeOk s) (p s ∷ e s ∷ s .«bridge_place» ∷ s .«neck_place» ∷ []) (fails 4 table h) in
+    let places = all-yes (placeOk s) (ownPlaces s) (fails 4 table h) in
     let place = and-yes (leb 1 (p s)) (leb (p s) (points s)) (places .0) in
     let mass = and-yes (leb 1 (m s)) (leb (m s) 1048576) (T-not-not (between 1 (m s) 1048576) (fails 5 table h)) in
     record {
@@ -217,8 +217,8 @@ module _ (s : Setup) (first second contact : List ℤ) (w w' : ℤ) (v : Lent) w
 
 laid-at : (s : Setup) (plan : Plan) (k : ℕ) → k < points s → LaidAt plan (suc k) (getD (laid s plan .heights) k (pos 0)) (getD (laid s plan .stiffness) k 0)
 unfolding laid
-laid-at s plan k h = rw (getD-tabulate (points s) (λ k. cond (fretAt plan (suc k)) (plan .tip) (at (plan .board) (suc k))) (pos 0) k h, getD-tabulate (points s) (λ k. cond (fretAt plan (suc k)) (plan .fretStiffness) (plan .boardStiffness)) 0 k h)
-    record { fret = λ t. rw (is-true (fretAt plan (suc k)) t) (refl, refl); board = λ t. rw (is-false (fretAt plan (suc k)) t) (refl, refl) }
+laid-at s plan k h = rw (getD-tabulate (points s) (λ k. cond (fretAt (plan .frets) (suc k)) (plan .tip) (at (plan .board) (suc k))) (pos 0) k h, getD-tabulate (points s) (λ k. cond (fretAt (plan .frets) (suc k)) (plan .fretStiffness) (plan .boardStiffness)) 0 k h)
+    record { fret = λ t. rw (is-true (fretAt (plan .frets) (suc k)) t) (refl, refl); board = λ t. rw (is-false (fretAt (plan .frets) (suc k)) t) (refl, refl) }
 
 pub accepts : Accepts
 unfolding setup lay start setupRules neckRules startRules laid

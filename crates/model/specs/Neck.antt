@@ -30,18 +30,17 @@ increasing (i ∷ j ∷ is) = ltb i j && increasing (j ∷ is)
 abbrev pub heightsRule : List ℤ → Rule
 heightsRule hs = 7 when not (all heightOk hs)
 
-module _ (plan : Plan) where
-  -- a fret stands at this place
-  abbrev pub fretAt : ℕ → Bool
-  fretAt i = any (eqb i) (plan .frets)
+-- a fret stands at this place
+abbrev pub fretAt : List ℕ → ℕ → Bool
+fretAt frets i = any (eqb i) frets
 
-  -- 8: more than 24 frets, a fret place out of range or not increasing
-  abbrev pub fretsRule : Setup → Rule
-  fretsRule s = 8 when (ltb 24 (length (plan .frets)) || not (all (placeOk s) (plan .frets)) || not (increasing (plan .frets)))
+-- 8: more than 24 frets, a fret place out of range or not increasing
+abbrev pub fretsWrong : Setup → List ℕ → Bool
+fretsWrong s frets = ltb 24 (length frets) || not (all (placeOk s) frets) || not (increasing frets)
 
-  -- 9: the tip above 0 or below the board at a fret; with no fret the tip isn't examined
-  abbrev pub tipRule : Rule
-  tipRule = 9 when any (λ i. ltZ (pos 0) (plan .tip) || ltZ (plan .tip) (at (plan .board) i)) (plan .frets)
+-- 9: the tip above 0 or below the board at a fret; with no fret the tip isn't examined
+abbrev pub tipWrong : List ℤ → List ℕ → ℤ → Bool
+tipWrong board frets tip = any (λ i. ltZ (pos 0) tip || ltZ tip (at board i)) frets
 
 -- the answer, and the two lent buffers after the call
 pub record NeckResult : Type 0 where
@@ -52,8 +51,8 @@ pub record NeckResult : Type 0 where
 -- a fret's point takes the tip height and the fret stiffness, every other point the board's
 unfoldable pub laid : Setup → Plan → Neck
 laid s plan = record {
-  heights = places (points s) (λ i. cond (fretAt plan i) (plan .tip) (at (plan .board) i));
-  stiffness = places (points s) (λ i. cond (fretAt plan i) (plan .fretStiffness) (plan .boardStiffness));
+  heights = places (points s) (λ i. cond (fretAt (plan .frets) i) (plan .tip) (at (plan .board) i));
+  stiffness = places (points s) (λ i. cond (fretAt (plan .frets) i) (plan .fretStiffness) (plan .boardStiffness));
 }
 
 -- an accepted neck
@@ -66,8 +65,8 @@ module _ (s : Setup) (plan : Plan) (heights : List ℤ) (stiffness : List ℕ) w
   neckRules = setupRules s
       ++ lengthsRule s (length (plan .board) ∷ length heights ∷ length stiffness ∷ [])
       ∷ heightsRule (plan .board)
-      ∷ fretsRule plan s
-      ∷ tipRule plan
+      ∷ 8 when fretsWrong s (plan .frets)
+      ∷ 9 when tipWrong (plan .board) (plan .frets) (plan .tip)
       ∷ []
 
   unfoldable pub lay : NeckResult

@@ -60,13 +60,21 @@ module _ (s : Setup) where
   abbrev pub lengthsRule : List ℕ → Rule
   lengthsRule ns = 6 when not (all lengthOk ns)
 
+  -- 2: L is 0, or L, M, S or Z above 4096
+  abbrev pub coefficientWrong : Bool
+  coefficientWrong = eqb L 0 || any (ltb 4096) (L ∷ M ∷ S ∷ Z ∷ [])
+
+  -- finger, pluck, bridge pickup and neck pickup
+  abbrev pub ownPlaces : List ℕ
+  ownPlaces = p ∷ e ∷ s .«bridge_place» ∷ s .«neck_place» ∷ []
+
   -- In document 000's symbols L, M, S and Z are 4096 times T0·k²/(ρA·h²), E·I·k²/(ρA·h⁴), 2·σ1·k/h² and σ0·k; the sum rule, 3, is condition (17) of document 001.
   unfoldable pub setupRules : List Rule
   setupRules =
       1 when not (between 2 N 128)
-      ∷ 2 when (eqb L 0 || any (ltb 4096) (L ∷ M ∷ S ∷ Z ∷ []))
+      ∷ 2 when coefficientWrong
       ∷ 3 when ltb 4096 (L + 4 * M + 2 * S)
-      ∷ placesRule (p ∷ e ∷ s .«bridge_place» ∷ s .«neck_place» ∷ [])
+      ∷ placesRule ownPlaces
       ∷ 5 when not (between 1 m 1048576)
       ∷ []
 

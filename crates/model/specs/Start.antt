@@ -1,5 +1,5 @@
 -- 01, 'One step': the fresh start, and its refusals.
-use mathlib.Core.Bool.{_&&_, not}
+use mathlib.Core.Bool.{Bool, _&&_, not}
 use mathlib.Core.List.{List, [], _∷_, _++_}
 use lib.IntN.{ℤ, pos}
 use lib.ListN.{length, replicate}
@@ -15,6 +15,10 @@ unfoldable pub fresh : Setup → ℤ → ℤ → Lent
 fresh s w w' =
     let zeros = replicate (points s) (pos 0) in
     record { first = zeros; second = zeros; contact = zeros; turn = 0; finger = record { newer = w; older = w'; contact = pos 0 } }
+
+-- 10: the fresh start's own ranges of the finger's height and older height
+abbrev pub fingerOk : ℤ → ℤ → Bool
+fingerOk w w' = inside (pos 0) w (pos 1048576) && displacementOk w'
 
 -- the turn and the finger or the number, and the three lent buffers after the call
 pub record StartResult : Type 0 where
@@ -32,7 +36,7 @@ module _ (s : Setup) (first second contact : List ℤ) (w w' : ℤ) where
   unfoldable pub startRules : List Rule
   startRules = setupRules s
       ++ lengthsRule s (length first ∷ length second ∷ length contact ∷ [])
-      ∷ 10 when not (inside (pos 0) w (pos 1048576) && displacementOk w')
+      ∷ 10 when not (fingerOk w w')
       ∷ []
 
   unfoldable pub start : StartResult

@@ -65,8 +65,8 @@ pub record Demand1 : Type 0 where
 
 -- of a laid neck, at place i: a fret's point takes the tip height and the fret stiffness, every other point the board's
 pub record LaidAt (plan : Plan) (i : ℕ) (height : ℤ) (stiffness : ℕ) : Type 0 where
-  pub fret : T (fretAt plan i) → (height ≡ plan .tip) × (stiffness ≡ plan .fretStiffness)
-  pub board : T (not (fretAt plan i)) → (height ≡ at (plan .board) i) × (stiffness ≡ plan .boardStiffness)
+  pub fret : T (fretAt (plan .frets) i) → (height ≡ plan .tip) × (stiffness ≡ plan .fretStiffness)
+  pub board : T (not (fretAt (plan .frets) i)) → (height ≡ at (plan .board) i) × (stiffness ≡ plan .boardStiffness)
 
 pub record Accepts : Type 0 where
   pub setups : (s a : Setup) → setup s ≡ accepted a → a ≡ s

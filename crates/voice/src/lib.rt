@@ -1,4 +1,4 @@
-// The string voice: what a caller may do, and the types of its arguments and answers. Each operation stands in a crate of its own, with its contract.
+// The string voice: what a caller may do, and the types of arguments and answers. Each operation stands in a crate of its own, with its contract.
 
 // 01, 'Setup': examines a setup.
 pub use voice_setup::check_setup;
@@ -7,6 +7,9 @@ pub use voice_setup::check_setup;
 pub use voice_neck::lay_neck;
 
 // 01, 'One step': clears strings and contact variables, and gives turn and finger.
+pub use voice_start::fresh_start;
+
+// What is passed and answered.
 pub use model::Finger;
 pub use model::FingerSetup;
 pub use model::NeckAnswer;
@@ -14,4 +17,3 @@ pub use model::Setup;
 pub use model::SetupAnswer;
 pub use model::StartAnswer;
 pub use model::Started;
-pub use voice_start::fresh_start;

@@ -27,7 +27,8 @@ fn write_neck(
     heights: &mut [i32],
     stiffness: &mut [u16],
 )
-    requires { ⌜ (2 ≤ N setup) × (length (now board) ≡ points setup) × (length (now heights) ≡ points setup) × (length (now stiffness) ≡ points setup) ⌝ }
+    requires { ⌜ (2 ≤ N setup)
+        × (length (now board) ≡ points setup) × (length (now heights) ≡ points setup) × (length (now stiffness) ≡ points setup) ⌝ }
     ensures { λ r. ⌜ record { heights = now (heights .exit); stiffness = now (stiffness .exit) } ≡ laid setup (record {
       board = now (board .entry);
       boardStiffness = «board_stiffness»;

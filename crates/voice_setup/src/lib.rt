@@ -2,15 +2,13 @@
 pub mod buffers;
 
 ghost use mathlib.Core.Path.{_≡_};
-ghost use mathlib.Core.Bool.{_||_};
-ghost use mathlib.Core.List.{[], _∷_};
 ghost use Prim.Native.Nat.{_+_, _*_, _≤_};
-ghost use lib.Dec.{ltb, eqb};
+ghost use lib.Dec.{ltb};
 ghost use Rattle.model.specs.Answers.{setupResult};
 ghost use Rattle.model.specs.Ranges as Ranges;
-ghost use Rattle.model.specs.Ranges.{all, any};
+ghost use Rattle.model.specs.Ranges.{all};
 ghost use Rattle.model.specs.Refusal.{firstOf};
-ghost use Rattle.model.specs.Setup.{p, e, placeOk, setupRules};
+ghost use Rattle.model.specs.Setup.{placeOk, coefficientWrong, ownPlaces, setupRules};
 ghost use Rattle.model.specs.Setup as Setups;
 use kernel_ranges::place_ok;
 use model::Setup;
@@ -24,9 +22,13 @@ fn between(low: u32, number: u32, high: u32) -> bool
 }
 
 // 2: the tension is 0, or it, the stiffness or a loss is above 4096.
-fn coefficient_wrong(tension: u32, stiffness: u32, viscous: u32, plain: u32) -> bool
-    ensures { λ r. ⌜ r ≡ (eqb tension 0 || any (ltb 4096) (tension ∷ stiffness ∷ viscous ∷ plain ∷ [])) ⌝ }
+fn coefficient_wrong(setup: Setup) -> bool
+    ensures { λ r. ⌜ r ≡ coefficientWrong setup ⌝ }
 {
+    let tension = setup.tension;
+    let stiffness = setup.stiffness;
+    let viscous = setup.viscous;
+    let plain = setup.plain;
     (tension == 0) | ((4096 < tension) | ((4096 < stiffness) | ((4096 < viscous) | (4096 < plain))))
 }
 
@@ -40,7 +42,7 @@ fn sum_wrong(tension: u32, stiffness: u32, viscous: u32) -> bool
 
 // 4: every place of the setup is one of the string's points.
 fn places_ok(setup: Setup) -> bool
-    ensures { λ r. ⌜ r ≡ all (placeOk setup) (p setup ∷ e setup ∷ setup .«bridge_place» ∷ setup .«neck_place» ∷ []) ⌝ }
+    ensures { λ r. ⌜ r ≡ all (placeOk setup) (ownPlaces setup) ⌝ }
 {
     let finger = place_ok(setup, setup.finger.place);
     let pluck = place_ok(setup, setup.pluck_place);
@@ -56,7 +58,7 @@ pub fn setup_refusal(setup: Setup) -> u32
     if !between(2, setup.segments, 128) {
         return 1;
     }
-    if coefficient_wrong(setup.tension, setup.stiffness, setup.viscous, setup.plain) {
+    if coefficient_wrong(setup) {
         return 2;
     }
     if sum_wrong(setup.tension, setup.stiffness, setup.viscous) {

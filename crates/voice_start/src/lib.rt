@@ -1,11 +1,9 @@
 // 01, 'One step': the fresh start, with both strings and all contact variables zero, turn 0 and the finger at its two heights.
 ghost use mathlib.Core.Path.{_≡_};
-ghost use mathlib.Core.Bool.{_&&_};
 ghost use lib.IntN.{pos};
 ghost use lib.ListN.{length, replicate};
 ghost use Rattle.model.specs.Answers.{startResult};
-ghost use Rattle.model.specs.Ranges.{inside, displacementOk};
-ghost use Rattle.model.specs.Start.{start};
+ghost use Rattle.model.specs.Start.{fingerOk, start};
 use kernel_ranges::displacement_ok;
 use model::Finger;
 use model::Setup;
@@ -16,7 +14,7 @@ use voice_setup::setup_refusal;
 
 // 10: the finger's height lies from 0 to 1,048,576, its older height in the range of displacements.
 fn finger_ok(height: i32, older: i32) -> bool
-    ensures { λ r. ⌜ r ≡ (inside (pos 0) height (pos 1048576) && displacementOk older) ⌝ }
+    ensures { λ r. ⌜ r ≡ fingerOk height older ⌝ }
 {
     let older_ok = displacement_ok(older);
     ((0 <= height) & (height <= 1048576)) & older_ok

@@ -6,14 +6,11 @@ use Prim.Native.Nat.{ℕ}
 use native.Mathlib.Omega.{arith}
 use borrow.Author.Needs.{needs}
 use lib.Dec.{T, ltb}
-use lib.IntN.{pos}
 use lib.ListN.{length, drop}
-use lib.Signed.{ltZ}
 use mir.Facts.{toZ-ofZ, or-no, T-not-not}
 use Rattle.model.specs.Answers.{neckResult}
-use Rattle.model.specs.Differences.{at}
-use Rattle.model.specs.Neck.{Plan, increasing, NeckResult, laid, laidResult, neckRules, lay}
-use Rattle.model.specs.Ranges.{all, any, between}
+use Rattle.model.specs.Neck.{Plan, increasing, tipWrong, NeckResult, laid, laidResult, neckRules, lay}
+use Rattle.model.specs.Ranges.{all, between}
 use Rattle.model.specs.Refusal.{Rule, firstOf}
 use Rattle.model.specs.Setup.{points, placeOk, setupRules}
 use Rattle.model.specs.State.{Neck}
@@ -111,7 +108,7 @@ module _ (c : lts.After-tip-wrong Learnt reads.Pre reads.Post) where
   call-5 = call-4 (c .before)
 
   -- of the tip as it was given
-  tip-judged : c .tip-wrong .result ≡ any (λ i. ltZ (pos 0) (call-5 .args .tip) || ltZ (call-5 .args .tip) (at (call-5 .args .board .now) i)) (call-5 .args .frets .now)
+  tip-judged : c .tip-wrong .result ≡ tipWrong (call-5 .args .board .now) (call-5 .args .frets .now) (call-5 .args .tip)
   tip-judged = rw (toZ-ofZ (call-5 .fits .tip)) at (c .tip-wrong .ensures)
 
 no-refusal : (c : lts.Else5 Learnt reads.Pre reads.Post) → firstOf (rules (call-5 (c .before))) ≡ 0

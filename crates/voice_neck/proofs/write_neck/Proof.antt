@@ -6,7 +6,6 @@ use mathlib.Core.Logic.{⊎-elim}
 use Prim.Native.Nat.{ℕ, suc, _+_, _-_, _<_}
 use native.Mathlib.Omega.{arith}
 use borrow.Author.Needs.{sfits-of}
-use lib.Dec.{eqb}
 use lib.IntN.{pos}
 use lib.ListN.{length}
 use mir.Syntax.{w32}
@@ -14,8 +13,7 @@ use mir.Val.{toZ}
 use mir.Facts.{toZ-ofZ}
 use Rattle.integers.specs.Filled.{Filled, filled-none, filled-more, filled-all}
 use Rattle.model.specs.Differences.{at}
-use Rattle.model.specs.Neck.{laid}
-use Rattle.model.specs.Ranges.{any}
+use Rattle.model.specs.Neck.{fretAt, laid}
 use Rattle.voice_neck.proofs.write_neck.Statement.{statement}
 use Rattle.voice_neck.proofs.write_neck.Tie as tie
 use Rattle.voice_neck.proofs.write_neck.Reads as reads
@@ -24,7 +22,7 @@ use Rattle.voice_neck.proofs.frets.fret_at.Reads as fret-at-reads
 
 -- what stands at a point, by the fret list: `fret` where a fret stands, the board's otherwise
 abbrev chosen : {A : Type 0} → List ℕ → A → (ℕ → A) → ℕ → A
-chosen frets fret board k = cond (any (eqb (suc k)) frets) fret (board k)
+chosen frets fret board k = cond (fretAt frets (suc k)) fret (board k)
 
 abbrev Inv-loop : tie.InvT-loop
 Inv-loop board board-stiffness frets tip fret-stiffness heights₀ stiffness₀ points i₀ heights stiffness i =
@@ -50,19 +48,26 @@ module _ (c : lts.In-loop Learnt reads.Pre reads.Post Inv-loop μ-loop) where
   in-board : i < length (c .before .before .before .before .before .args .board .now)
   in-board = omega (arith, c .before .before .before .before .before .pre .1)
 
--- whether the point of a turn has a fret
-fretted : (c : lts.After-fret-at Learnt reads.Pre reads.Post Inv-loop μ-loop) → any (eqb (suc (i (c .before)))) (c .before .before .before .before .before .before .args .frets .now) ≡ c .fret-at .result
-fretted c =
-    let place : i (c .before) + 1 ≡ suc (i (c .before)) = omega arith in
-    sym (c .fret-at .ensures ∙ ap (λ k. any (eqb k) (c .before .before .before .before .before .before .args .frets .now)) place)
+module _ (c : lts.After-fret-at Learnt reads.Pre reads.Post Inv-loop μ-loop) where
+  abbrev args : lts.Args Learnt reads.Pre reads.Post Inv-loop μ-loop (c .before .before .before .before .before .before .κs)
+  args = c .before .before .before .before .before .before .args
+
+  -- whether the point of this turn has a fret
+  fretted : fretAt (args .frets .now) (suc (i (c .before))) ≡ c .fret-at .result
+  fretted =
+      let place : i (c .before) + 1 ≡ suc (i (c .before)) = omega arith in
+      sym (c .fret-at .ensures ∙ ap (fretAt (args .frets .now)) place)
 
 loop-again : tie.Need-loop-again Inv-loop μ-loop
 loop-again c =
     let turn = c .before .before in
-    let inv = turn .before .loop .inv in
+    let (heights, stiffness) = turn .before .loop .inv in
+    let more = turn .loop-test .taken in
     ⊎-elim
-    (λ way. (rw (way .1) (filled-more (turn .loop-test .taken) (inv .0) (rw (fretted (c .before), way .0 .taken) refl)), rw (way .2) (filled-more (turn .loop-test .taken) (inv .1) (rw (fretted (c .before), way .0 .taken) refl))))
-    (λ way. (rw (way .2) (filled-more (turn .loop-test .taken) (inv .0) (rw (fretted (c .before), way .0 .left) (toZ-ofZ (sfits-of (way .1 .given))))), rw (way .3) (filled-more (turn .loop-test .taken) (inv .1) (rw (fretted (c .before), way .0 .left) refl))))
+    (λ fret. let at-fret = fret .0 .taken in
+    (rw (fret .1) (filled-more more heights (rw (fretted (c .before), at-fret) refl)), rw (fret .2) (filled-more more stiffness (rw (fretted (c .before), at-fret) refl))))
+    (λ board. let on-board = board .0 .left in
+    (rw (board .2) (filled-more more heights (rw (fretted (c .before), on-board) (toZ-ofZ (sfits-of (board .1 .given))))), rw (board .3) (filled-more more stiffness (rw (fretted (c .before), on-board) refl))))
     (c .if1 .came)
 
 returns : tie.Need-returns Inv-loop μ-loop

@@ -1,6 +1,5 @@
 -- The table is gone through row by row; a passed table leads to the three cleared buffers.
 use mathlib.Core.Path.{_≡_, _∙_, ap}
-use mathlib.Core.Bool.{_&&_}
 use mathlib.Core.List.{List, [], _∷_}
 use Prim.Native.Nat.{ℕ}
 use native.Mathlib.Omega.{arith}
@@ -9,10 +8,9 @@ use lib.IntN.{ℤ, pos}
 use lib.ListN.{length, drop, replicate}
 use mir.Facts.{toZ-ofZ}
 use Rattle.model.specs.Answers.{startResult}
-use Rattle.model.specs.Ranges.{inside, displacementOk}
 use Rattle.model.specs.Refusal.{Rule, firstOf}
 use Rattle.model.specs.Setup.{points, setupRules}
-use Rattle.model.specs.Start.{fresh, StartResult, startedResult, startRules, start}
+use Rattle.model.specs.Start.{fresh, fingerOk, StartResult, startedResult, startRules, start}
 use Rattle.model.specs.declared.StartAnswer.the-variants.{Accepted, Refused}
 use Rattle.promises.specs.Promises.{Every}
 use Rattle.laws.specs.Accepted.{SetupFacts, setup-accepted, setup-reached, setup-refused, right-lengths}
@@ -83,7 +81,7 @@ module _ (c : lts.After-finger-ok Learnt reads.Pre reads.Post) where
   call-3 = call-2 (c .before)
 
   -- of the heights as they were given
-  finger-judged : c .finger-ok .result ≡ (inside (pos 0) (call-3 .args .height) (pos 1048576) && displacementOk (call-3 .args .older))
+  finger-judged : c .finger-ok .result ≡ fingerOk (call-3 .args .height) (call-3 .args .older)
   finger-judged = rw (toZ-ofZ (call-3 .fits .height), toZ-ofZ (call-3 .fits .older)) at (c .finger-ok .ensures)
 
 no-refusal : (c : lts.Else3 Learnt reads.Pre reads.Post) → firstOf (rules (call-3 (c .before))) ≡ 0
