@@ -1,11 +1,14 @@
 -- The list of f 0 .. f (n - 1), and a list that a loop fills with it from the front.
 use mathlib.Core.Path.{_≡_, refl, sym, ap, _∙_}
+use mathlib.Core.Bool.{Bool, true, false, cond}
 use mathlib.Core.List.{List, [], _∷_}
-use Prim.Native.Nat.{ℕ, zero, suc, _+_, _≤_, _<_}
+use Prim.Native.Nat.{ℕ, zero, suc, _+_, min, _≤_, _<_}
 use native.Mathlib.Nat.{le-of-suc-le-suc, not-suc-le-zero, le-refl, le-of-eq}
 use native.Mathlib.Omega.{arith}
 use native.Mathlib.Decide.{decLt}
-use lib.ListN.{length, getD, set, take, replicate, length-set, length-replicate}
+use lib.Dec.{eqb}
+use mir.Facts.{eqb-yes, eqb-no}
+use lib.ListN.{length, getD, set, take, replicate, length-set, length-take, length-replicate}
 use lib.Seq.{ext-getD, getD-set-same, getD-set-other, getD-take, take-all, length-take-le}
 use borrow.Author.Count.{below-none, below-more}
 
@@ -56,6 +59,25 @@ module _ {A : Type 0} {d : A} {n : ℕ} {f : ℕ → A} where
   -- and all of them
   pub filled-all : {i : ℕ} {l : List A} → n ≤ i → Filled d n f i l → l ≡ tabulate n f
   filled-all {i} {l} h F = sym (take-all n l (le-of-eq (F .len))) ∙ filled-first h (le-refl n) F
+
+-- one of the first m elements of an array set anew
+pub tabulate-set : {A : Type 0} (d : A) (m : ℕ) (f : ℕ → A) (k : ℕ) (l : List A) (v : A) → k < m → take m l ≡ tabulate m f → take m (set l k v) ≡ tabulate m (λ j. cond (eqb (suc j) (suc k)) v (f j))
+tabulate-set {A} d m f k l v lt e = ext-getD d (take m (set l k v)) (tabulate m g) (long ∙ sym (length-tabulate m g))
+    (λ j i. let b : j < m = rw long at i in getD-take m (set l k v) j d b ∙ each j b (eqb (suc j) (suc k)) refl ∙ sym (getD-tabulate m g d j b))
+  where
+    g : ℕ → A
+    g j = cond (eqb (suc j) (suc k)) v (f j)
+
+    -- l has m elements at least
+    h : m ≤ length l
+    h = let q : min m (length l) ≡ m = sym (length-take m l) ∙ ap length e ∙ length-tabulate m f in omega arith
+
+    long : length (take m (set l k v)) ≡ m
+    long = length-take-le m (set l k v) (rw (length-set l k v) h)
+
+    each : (j : ℕ) → j < m → (t : Bool) → eqb (suc j) (suc k) ≡ t → getD (set l k v) j d ≡ cond t v (f j)
+    each j b true q = let same = eqb-yes {a = suc j} {b = suc k} (rw q tt) in let e' : j ≡ k = omega arith in rw e' (getD-set-same l k v d (omega (arith, h)))
+    each j b false q = getD-set-other l k j v d (λ z. eqb-no {a = suc j} {b = suc k} (rw q tt) (ap suc z)) ∙ sym (getD-take m l j d b) ∙ ap (λ x. getD x j d) e ∙ getD-tabulate m f d j b
 
 -- ---- an array that holds d everywhere before the loop, so that what is not done yet still does
 

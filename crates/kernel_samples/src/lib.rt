@@ -1,11 +1,16 @@
-// 01, 'Playing a block, reading a place': whole numbers divided by 1,048,576 as floats, with nothing lost, and the pickup frame of two of them.
+// 01, 'Playing a block, reading a place': whole numbers divided by 1,048,576 as floats, with nothing lost, and the pickup frame of a string.
 ghost use mathlib.Core.Path.{_≡_};
 ghost use lib.Dec.{T};
 ghost use lib.Ieee.{binary32, binary64};
-ghost use Rattle.model.specs.Ranges.{displacementOk};
+ghost use lib.ListN.{length};
+ghost use Rattle.model.specs.Differences.{at};
+ghost use Rattle.model.specs.Ranges.{all, displacementOk};
+ghost use Rattle.model.specs.Setup.{points, setupRules};
 ghost use Rattle.model.specs.Fraction.{fraction, Holds};
 ghost use Rattle.model.specs.Step.{frameOf};
+ghost use Rattle.promises.specs.Promises.{Passed};
 use model::Frame;
+use model::Setup;
 
 // x / 1,048,576 in single precision.
 pub fn single(x: i32) -> f32
@@ -32,4 +37,14 @@ pub fn frame(bridge: i32, neck: i32) -> Frame
         bridge: single(bridge),
         neck: single(neck),
     }
+}
+
+// The pickup frame of a string: its displacements at the bridge and the neck pickup.
+pub fn pickup_frame(setup: Setup, string: &[i32]) -> Frame
+    requires { ⌜ Passed (setupRules setup) × (length (now string) ≡ points setup) × T (all displacementOk (now string)) ⌝ }
+    ensures { λ r. ⌜ r ≡ frameOf (at (now (string .entry)) (setup .«bridge_place»)) (at (now (string .entry)) (setup .«neck_place»)) ⌝ }
+{
+    let bridge = setup.bridge_place as usize;
+    let neck = setup.neck_place as usize;
+    frame(string[bridge - 1], string[neck - 1])
 }

@@ -71,10 +71,16 @@ pub fn point_equation(
     Equation { factor, side }
 }
 
+// What both sides of a point's division are scaled by, 2^20, which leaves the quotient as it is. A compiler may have the processor divide by
+// 32 bits where both sides fit, and by 64 where not; scaled, the divisor never fits, so that the choice does not go by the data.
+const SCALE: i64 = 1048576;
+
 // The move of a point where no finger stands: c / A, rounded.
 pub fn point_move(equation: Equation) -> i64
     requires { ⌜ (pos 0 <ℤ equation .factor) × (equation .factor within 73217) × (equation .side within 2 ^ 37) ⌝ }
     ensures { λ r. ⌜ r ≡ Rounding.nearest (equation .side) (equation .factor) ⌝ }
 {
-    nearest(equation.side, equation.factor)
+    let side = equation.side;
+    let factor = equation.factor;
+    nearest(SCALE * side, SCALE * factor)
 }

@@ -12,7 +12,7 @@ use Rattle.integers.specs.Filled.{length-tabulate, getD-tabulate}
 use Rattle.integers.specs.Tests.{is-true, is-false}
 use Rattle.model.specs.Ranges.{all, any, between}
 use Rattle.model.specs.Refusal.{Rule, firstOf, Answer, accepted, refused}
-use Rattle.model.specs.Setup.{N, L, M, S, Z, m, p, points, placeOk, lengthOk, coefficientWrong, ownPlaces, setupRules, setup}
+use Rattle.model.specs.Setup.{N, L, M, S, Z, m, p, e, points, placeOk, lengthOk, coefficientWrong, ownPlaces, setupRules, setup}
 use Rattle.model.specs.Differences.{at}
 use Rattle.model.specs.State.{State, Lent, byTurn, newest, stateOf, put, Neck, Forces}
 use Rattle.model.specs.Step.{workedStep, nextState, buffersRule, callRules, resultRules, stepRules, frame, StepResult, step}
@@ -38,6 +38,12 @@ pub record SetupFacts (s : Setup) : Type 0 where
   pub mass : m s ≤ 1048576
   pub first : 1 ≤ p s
   pub last : p s ≤ points s
+  pub pluck-first : 1 ≤ e s
+  pub pluck-last : e s ≤ points s
+  pub bridge-first : 1 ≤ s .«bridge_place»
+  pub bridge-last : s .«bridge_place» ≤ points s
+  pub neck-first : 1 ≤ s .«neck_place»
+  pub neck-last : s .«neck_place» ≤ points s
 
 none-above : (ns : List ℕ) → T (not (any (ltb 4096) ns)) → Every (λ n. n ≤ 4096) ns
 none-above [] t = tt
@@ -47,28 +53,41 @@ none-above (n ∷ ns) t = let k = or-no (ltb 4096 n) (any (ltb 4096) ns) t in (l
 pub small-coefficients : (s : Setup) → T (not (coefficientWrong s)) → Every (λ n. n ≤ 4096) (L s ∷ M s ∷ S s ∷ Z s ∷ [])
 small-coefficients s t = none-above (L s ∷ M s ∷ S s ∷ Z s ∷ []) (or-no (eqb (L s) 0) (any (ltb 4096) (L s ∷ M s ∷ S s ∷ Z s ∷ [])) t .1)
 
+between-yes : (a n b : ℕ) → T (between a n b) → (a ≤ n) × (n ≤ b)
+unfolding between
+between-yes a n b t = let h = and-yes (leb a n) (leb n b) t in (leb-yes (h .0), leb-yes (h .1))
+
 pub sound : (s : Setup) (rules : List Rule) → Passed (setupRules s ++ rules) → SetupFacts s
-unfolding setupRules placeOk between
+unfolding setupRules placeOk
 sound s rules h =
     let table = setupRules s ++ rules in
-    let segments = and-yes (leb 2 (N s)) (leb (N s) 128) (T-not-not (between 2 (N s) 128) (fails 1 table h)) in
+    let segments = between-yes 2 (N s) 128 (T-not-not (between 2 (N s) 128) (fails 1 table h)) in
     let coefficients = small-coefficients s (fails 2 table h) in
     let stable : L s + 4 * M s + 2 * S s ≤ 4096 = ltb-no (fails 3 table h) in
     let places = all-yes (placeOk s) (ownPlaces s) (fails 4 table h) in
-    let place = and-yes (leb 1 (p s)) (leb (p s) (points s)) (places .0) in
-    let mass = and-yes (leb 1 (m s)) (leb (m s) 1048576) (T-not-not (between 1 (m s) 1048576) (fails 5 table h)) in
+    let finger = between-yes 1 (p s) (points s) (places .0) in
+    let pluck = between-yes 1 (e s) (points s) (places .1 .0) in
+    let bridge = between-yes 1 (s .«bridge_place») (points s) (places .1 .1 .0) in
+    let neck = between-yes 1 (s .«neck_place») (points s) (places .1 .1 .1 .0) in
+    let mass = between-yes 1 (m s) 1048576 (T-not-not (between 1 (m s) 1048576) (fails 5 table h)) in
     record {
-      segments-low = leb-yes (segments .0);
-      segments = leb-yes (segments .1);
+      segments-low = segments .0;
+      segments = segments .1;
       stable = stable;
       tension = omega arith;
       stiffness = omega arith;
       viscous = omega arith;
       plain = coefficients .1 .1 .1 .0;
-      mass-low = leb-yes (mass .0);
-      mass = leb-yes (mass .1);
-      first = leb-yes (place .0);
-      last = leb-yes (place .1);
+      mass-low = mass .0;
+      mass = mass .1;
+      first = finger .0;
+      last = finger .1;
+      pluck-first = pluck .0;
+      pluck-last = pluck .1;
+      bridge-first = bridge .0;
+      bridge-last = bridge .1;
+      neck-first = neck .0;
+      neck-last = neck .1;
     }
 
 pub setup-facts : (s : Setup) → Passed (setupRules s) → SetupFacts s

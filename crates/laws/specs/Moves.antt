@@ -20,7 +20,7 @@ use Rattle.model.specs.Differences.{at}
 use Rattle.model.specs.Rounding.{nearest}
 use Rattle.model.specs.System.{det, rounded₁}
 use Rattle.model.specs.State.{State, Forces, PointsAndFinger}
-use Rattle.model.specs.Step.{A, c, fingerSystem, system, moves}
+use Rattle.model.specs.Step.{factor, A, c, fingerSystem, system, moves}
 use Rattle.model.specs.declared.Setup.{Setup}
 use Rattle.model.specs.declared.Finger.{Finger}
 use Rattle.promises.specs.Promises.{IsNearest, IsRounded}
@@ -34,9 +34,12 @@ pub record NearestMoves (s : Setup) (x : State) (G : PointsAndFinger) (F : Force
   pub away : (i : ℕ) → 1 ≤ i → i ≤ points s → i ≢ p s → IsNearest (c s x G F i) (A s G i) (at (δ .points) i)
   pub finger : IsRounded (system s x G F) (at (δ .points) (p s)) (δ .finger)
 
+pub factor-positive : (s : Setup) (G : ℤ) → pos 0 <ℤ factor s G
+factor-positive s G = deduce 2 (λ Z G. times 1 (# 0 ≼ Z) ∷ square 1 G ∷ [] ⊢ # 0 ≺ # 4096 ⊕ Z ⊕ G ⊗ G) tt (pos (Z s)) G (nonneg (Z s))
+
 pub A-positive : (s : Setup) (G : PointsAndFinger) (i : ℕ) → pos 0 <ℤ A s G i
 unfolding A
-A-positive s G i = deduce 2 (λ Z G. times 1 (# 0 ≼ Z) ∷ square 1 G ∷ [] ⊢ # 0 ≺ # 4096 ⊕ Z ⊕ G ⊗ G) tt (pos (Z s)) (at (G .points) i) (nonneg (Z s))
+A-positive s G i = factor-positive s (at (G .points) i)
 
 -- the determinant is A·m + g²·(A + m)
 pub regular-system : (s : Setup) (finger : Finger) {A : ℤ} (c g f : ℤ) → pos 0 <ℤ A → 1 ≤ m s → pos 0 <ℤ det (fingerSystem s finger A c g f)

@@ -8,8 +8,8 @@ use native.Mathlib.Numerals.{add-one}
 use lib.IntN.{ℤ, pos, negsuc, negℤ, _+ℤ_, _-ℤ_, _*ℤ_}
 use lib.Signed.{_≤ℤ_, _<ℤ_, ltZ-yes, clashℤ}
 use mir.Facts.{yes-ltb}
-use Rattle.integers.specs.Solve.{_⊕_, _⊖_, _⊗_, ⊝_, #_, _≐_}
-use Rattle.integers.specs.Order.{≤-antisym, ≤-trans, ≤-times, ≤-natAbs, natAbs-≤, <-≤, <-or-≤, <-times, nonneg, cancel-<, cancel-≤}
+use Rattle.integers.specs.Solve.{_⊕_, _⊖_, _⊗_, ⊝_, #_, _≐_, solve}
+use Rattle.integers.specs.Order.{≤-antisym, ≤-trans, ≤-times, ≤-natAbs, natAbs-≤, <-≤, <-or-≤, <-times, times-positive, nonneg, cancel-<, cancel-≤}
 use Rattle.integers.specs.Size.{size, size-neg, size-nonneg, size-between}
 use Rattle.integers.specs.Derive.{_≼_, _≺_, _⊢_, times, equal, deduce}
 use Rattle.model.specs.Rounding.{floor, nearest}
@@ -139,6 +139,11 @@ same-fraction {a} {b} {a'} {b'} {q} h h' e n = let m = nearest-between h n in be
   above = cancel-< h (deduce 5 (λ a b a' b' q. times 1 (b' ⊗ (# 2 ⊗ a ⊖ b) ≺ b' ⊗ (# 2 ⊗ b ⊗ q)) ∷ equal (# 2) (a' ⊗ b ≐ a ⊗ b') ∷ [] ⊢ b ⊗ (# 2 ⊗ a' ⊖ b') ≺ b ⊗ (# 2 ⊗ b' ⊗ q)) tt a b a' b' q (<-times h' (m .above)) (sym e));
   below = cancel-≤ h (deduce 5 (λ a b a' b' q. times 1 (b' ⊗ (# 2 ⊗ b ⊗ q) ≼ b' ⊗ (# 2 ⊗ a ⊕ b)) ∷ equal (# 2) (a ⊗ b' ≐ a' ⊗ b) ∷ [] ⊢ b ⊗ (# 2 ⊗ b' ⊗ q) ≼ b ⊗ (# 2 ⊗ a' ⊕ b')) tt a b a' b' q (≤-times (<-≤ h') (m .below)) e);
 }
+
+-- both scaled by k
+pub nearest-scaled : (k a : ℤ) {b : ℤ} → pos 0 <ℤ k → pos 0 <ℤ b → nearest (k *ℤ a) (k *ℤ b) ≡ nearest a b
+nearest-scaled k a {b} p h = unique (times-positive p h) (nearest-is (k *ℤ a) (times-positive p h))
+    (same-fraction h (times-positive p h) (solve 3 (λ k a b. a ⊗ (k ⊗ b) ≐ k ⊗ a ⊗ b) tt k a b) (nearest-is a h))
 
 -- a shift by an even number, which keeps a tie's parity
 pub nearest-shift : (a k : ℤ) {b : ℤ} → pos 0 <ℤ b → nearest (a +ℤ pos 2 *ℤ k *ℤ b) b ≡ nearest a b +ℤ pos 2 *ℤ k

@@ -78,18 +78,20 @@ last-rows false true c n q = inr (inl (sym q))
 last-rows false false true n q = inr (inr (sym q))
 last-rows false false false n q = absurd (omega arith)
 
+-- where a voice is ready, the rows below those four give the number
+pub rows-left : {s : Setup} {neck : Neck} {x : State} → Ready s neck x → (rules : List Rule)
+    → firstOf (setupRules s ++ buffersRule s neck x ∷ heightsRule (neck .heights) ∷ stateRule x ∷ rules) ≡ firstOf rules
+unfolding setupRules
+rows-left {s} {neck} {x} r rules =
+    let later = buffersRule s neck x ∷ heightsRule (neck .heights) ∷ stateRule x ∷ [] in
+    first-append (setupRules s ++ later) rules (append-passed (setupRules s) later (r .setup) (r .buffers .0, (r .heights .0, (r .state .0, tt))))
+
 pub ready-refused : (s : Setup) (neck : Neck) (v : Lent) (F : Forces) → Ready s neck (stateOf v) → (n : ℕ) → step s neck v F .answer ≡ refused n → (n ≡ 12) ⊎ ((n ≡ 13) ⊎ (n ≡ 14))
 unfolding step stepRules callRules resultRules setupRules
 ready-refused s neck v F r n q = go (firstOf (stepRules s neck x F)) refl q
   where
     x : State
     x = stateOf v
-
-    front : List Rule
-    front = setupRules s ++ buffersRule s neck x ∷ heightsRule (neck .heights) ∷ stateRule x ∷ []
-
-    passed-front : Passed front
-    passed-front = append-passed (setupRules s) (buffersRule s neck x ∷ heightsRule (neck .heights) ∷ stateRule x ∷ []) (r .setup) (r .buffers .0, (r .heights .0, (r .state .0, tt)))
 
     y : State
     y = nextState (workedStep s neck x F)
@@ -105,4 +107,4 @@ ready-refused s neck v F r n q = go (firstOf (stepRules s neck x F)) refl q
 
     go : (m : ℕ) → firstOf (stepRules s neck x F) ≡ m → unless m (resultMade s neck v F) (λ k. record { answer = refused k; lent = v }) .answer ≡ refused n → (n ≡ 12) ⊎ ((n ≡ 13) ⊎ (n ≡ 14))
     go zero e q = never-both q refl
-    go (suc m) e q = let same : suc m ≡ n = cc in rw (← same) (last-rows b₁₂ b₁₃ b₁₄ m (sym (first-append front (12 when b₁₂ ∷ 13 when b₁₃ ∷ 14 when b₁₄ ∷ []) passed-front) ∙ e))
+    go (suc m) e q = let same : suc m ≡ n = cc in rw (← same) (last-rows b₁₂ b₁₃ b₁₄ m (sym (rows-left r (12 when b₁₂ ∷ 13 when b₁₃ ∷ 14 when b₁₄ ∷ [])) ∙ e))

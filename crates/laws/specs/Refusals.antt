@@ -1,6 +1,6 @@
 -- Refusal tables: what the number says of the conditions, and the other way round.
 use mathlib.Core.Path.{_≡_, refl, sym, _∙_, ap}
-use mathlib.Core.Bool.{Bool, true, false, not, _&&_, cond}
+use mathlib.Core.Bool.{Bool, true, false, not, _&&_, cond, and-assoc}
 use mathlib.Core.List.{List, [], _∷_, _++_}
 use Prim.Native.Nat.{ℕ, zero, suc, _<_}
 use native.Mathlib.Nat.{le-of-suc-le-suc, not-suc-le-zero}
@@ -97,16 +97,15 @@ pub yes-all {ℓ} : {B : Type ℓ} (f : B → Bool) (xs : List B) → Every (λ 
 yes-all f [] h = tt
 yes-all f (x ∷ xs) h = yes-and (f x) (all f xs) (h .0) (yes-all f xs (h .1))
 
+pub all-parts : {B : Type 0} (f : B → Bool) (xs ys : List B) → all f (xs ++ ys) ≡ (all f xs && all f ys)
+all-parts f [] ys = refl
+all-parts f (x ∷ xs) ys = ap (λ b. f x && b) (all-parts f xs ys) ∙ sym (and-assoc (f x) (all f xs) (all f ys))
+
 pub all-append : {B : Type 0} (f : B → Bool) (xs ys : List B) → T (all f (xs ++ ys)) → T (all f xs) × T (all f ys)
-all-append f [] ys t = (tt, t)
-all-append f (x ∷ xs) ys t =
-    let h = and-yes (f x) (all f (xs ++ ys)) t in
-    let k = all-append f xs ys (h .1) in
-    (yes-and (f x) (all f xs) (h .0) (k .0), k .1)
+all-append f xs ys t = and-yes (all f xs) (all f ys) (rw (all-parts f xs ys) at t)
 
 pub append-all : {B : Type 0} (f : B → Bool) (xs ys : List B) → T (all f xs) → T (all f ys) → T (all f (xs ++ ys))
-append-all f [] ys t u = u
-append-all f (x ∷ xs) ys t u = let h = and-yes (f x) (all f xs) t in yes-and (f x) (all f (xs ++ ys)) (h .0) (append-all f xs ys (h .1) u)
+append-all f xs ys t u = rw (all-parts f xs ys) (yes-and (all f xs) (all f ys) t u)
 
 pub all-entry : {B : Type 0} (f : B → Bool) (xs : List B) (d : B) → T (all f xs) → (i : ℕ) → i < length xs → T (f (getD xs i d))
 all-entry f [] d t i l = absurd (not-suc-le-zero l)

@@ -17,7 +17,7 @@ use Rattle.model.specs.Setup.{K, p, e, points, lengthOk, setupRules}
 use Rattle.model.specs.Differences.{at, minus, D1}
 use Rattle.model.specs.Gradient.{gradient}
 use Rattle.model.specs.State.{State, Neck, Forces, PointsAndFinger}
-use Rattle.model.specs.Step.{gradients, A, c, system, callRules}
+use Rattle.model.specs.Step.{gradients, factor, rightSide, A, c, system, callRules}
 use Rattle.model.specs.declared.Setup.{Setup}
 use Rattle.promises.specs.Promises.{Passed}
 use Rattle.laws.specs.Refusals.{fails, all-yes}
@@ -52,28 +52,31 @@ D1-bounded u {n} h (suc k) = go (ltb k (length u)) refl
     go true e = rw (getD-tabulate (length u) (bend (at u)) (pos 0) k (ltb→lt k (length u) (rw e tt))) (h k ⟨-⟩ num 2 ⟨*⟩ h (suc k) ⟨+⟩ h (suc (suc k)))
     go false e = rw (List·getD-eq-default (D1 u) (pos 0) {n = k} (rw (length-tabulate (length u) (bend (at u))) (nltb→le k (length u) (rw e tt)))) (weaken (num 0) zero-le)
 
-only : (b : Bool) {y : ℤ} {n : ℕ} → y within n → cond b y (pos 0) within n
+pub only : (b : Bool) {y : ℤ} {n : ℕ} → y within n → cond b y (pos 0) within n
 only true h = h
 only false h = weaken (num 0) zero-le
 
+-- A and c of a point, from its gradient, contact variable and pluck force, and both strings
+module _ {s : Setup} (ok : SetupFacts s) {G : ℤ} (g : G within 255) where
+  pub factor-size : factor s G within 73217
+  factor-size = num 4096 ⟨+⟩ natural (ok .plain) ⟨+⟩ g ⟨*⟩ g
+
+  pub side-size : {u v : List ℤ} → length u ≡ length v → Bounded u 1048576 → Bounded v 1048576 → {ψ f : ℤ} → ψ within 67108864 → f within 1073741824 → (i : ℕ) → rightSide s u v G ψ f i within 2 ^ 37
+  side-size {u} {v} e hu hv c f i =
+      wide (num 8192 ⟨*⟩ a i ⟨+⟩ natural (ok .tension) ⟨*⟩ D1-bounded u hu i ⟨-⟩ natural (ok .stiffness) ⟨*⟩ D1-bounded (D1 u) (D1-bounded u hu) i
+      ⟨+⟩ natural (ok .viscous) ⟨*⟩ D1-bounded (minus u v) a i ⟨+⟩ num 2 ⟨*⟩ g ⟨*⟩ c ⟨+⟩ f) tt
+    where
+      a : Bounded (minus u v) 2097152
+      a i = rw (at-minus (record { long = refl }) (record { long = sym e }) i) (hu i ⟨-⟩ hv i)
+
 module _ {s : Setup} {x : State} {G : PointsAndFinger} {F : Forces} (b : StepRanges s x G F) where
-  a : List ℤ
-  a = minus (x .newer) (x .older)
-
-  a-bounded : Bounded a 2097152
-  unfolding a
-  a-bounded i = rw (at-minus (record { long = refl }) (record { long = sym (b .lengths) }) i) (b .newer i ⟨-⟩ b .older i)
-
   pub A-size : (i : ℕ) → A s G i within 73217
   unfolding A
-  A-size i = num 4096 ⟨+⟩ natural (b .setup .plain) ⟨+⟩ b .gradients i ⟨*⟩ b .gradients i
+  A-size i = factor-size (b .setup) (b .gradients i)
 
   pub c-size : (i : ℕ) → c s x G F i within 2 ^ 37
-  unfolding c a
-  c-size i =
-      let u = x .newer in
-      wide (num 8192 ⟨*⟩ a-bounded i ⟨+⟩ natural (b .setup .tension) ⟨*⟩ D1-bounded u (b .newer) i ⟨-⟩ natural (b .setup .stiffness) ⟨*⟩ D1-bounded (D1 u) (D1-bounded u (b .newer)) i
-      ⟨+⟩ natural (b .setup .viscous) ⟨*⟩ D1-bounded a a-bounded i ⟨+⟩ num 2 ⟨*⟩ b .gradients i ⟨*⟩ b .contact i ⟨+⟩ only (eqb i (e s)) (b .forces .0)) tt
+  unfolding c
+  c-size i = side-size (b .setup) (b .gradients i) (b .lengths) (b .newer) (b .older) (b .contact i) (only (eqb i (e s)) (b .forces .0)) i
 
   pub b₁-size : system s x G F .b₁ within 2 ^ 38
   unfolding system

@@ -1,5 +1,5 @@
 -- 01, 'One step', in parts: the gradients; the moves, with any gradients; the next state, with any moves; the refusals; the call.
-use mathlib.Core.Bool.{_&&_, not, cond}
+use mathlib.Core.Bool.{Bool, _&&_, not, cond}
 use mathlib.Core.List.{List, [], _∷_, _++_, zipWith}
 use Prim.Native.Nat.{ℕ}
 use lib.Dec.{eqb}
@@ -117,8 +117,15 @@ abbrev pub buffersRule : Setup → Neck → State → Rule
 buffersRule s neck x = lengthsRule s (length (neck .heights) ∷ length (neck .stiffness) ∷ length (x .newer) ∷ length (x .older) ∷ length (x .contact) ∷ [])
 
 -- 11: a displacement, finger height or contact variable passed in
+abbrev pub stateOk : State → Bool
+stateOk x = all displacementOk (x .finger .newer ∷ x .finger .older ∷ x .newer ++ x .older) && all contactOk (x .finger .contact ∷ x .contact)
+
 abbrev pub stateRule : State → Rule
-stateRule x = 11 when not (all displacementOk (x .finger .newer ∷ x .finger .older ∷ x .newer ++ x .older) && all contactOk (x .finger .contact ∷ x .contact))
+stateRule x = 11 when not (stateOk x)
+
+-- 12: a force
+abbrev pub forcesRule : Forces → Rule
+forcesRule F = 12 when not (all forceOk (F .pluck ∷ F .finger ∷ []))
 
 -- what a call is refused for
 unfoldable pub callRules : Setup → Neck → State → Forces → List Rule
@@ -126,7 +133,7 @@ callRules s neck x F = setupRules s
     ++ buffersRule s neck x
     ∷ heightsRule (neck .heights)
     ∷ stateRule x
-    ∷ 12 when not (all forceOk (F .pluck ∷ F .finger ∷ []))
+    ∷ forcesRule F
     ∷ []
 
 -- what its result is refused for

@@ -22,3 +22,20 @@ pub fn three_lengths_ok(setup: Setup, first: usize, second: usize, third: usize)
     let third_ok = length_ok(setup, third);
     first_ok & (second_ok & third_ok)
 }
+
+pub fn five_lengths_ok(
+    setup: Setup,
+    first: usize,
+    second: usize,
+    third: usize,
+    fourth: usize,
+    fifth: usize,
+) -> bool
+    requires { ⌜ 2 ≤ N setup ⌝ }
+    ensures { λ r. ⌜ r ≡ all (lengthOk setup) (first ∷ second ∷ third ∷ fourth ∷ fifth ∷ []) ⌝ }
+{
+    let first_ok = length_ok(setup, first);
+    let second_ok = length_ok(setup, second);
+    let others_ok = three_lengths_ok(setup, third, fourth, fifth);
+    first_ok & (second_ok & others_ok)
+}

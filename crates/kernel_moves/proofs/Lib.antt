@@ -1,0 +1,2 @@
+-- What the proofs of the moves share.
+mod InRange

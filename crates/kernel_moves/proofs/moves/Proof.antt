@@ -1,0 +1,144 @@
+-- `moves` meets its contract: the free moves, with the finger's solution put in at p.
+use mathlib.Core.Path.{_≡_, sym, _∙_, ap, ap₂}
+use mathlib.Core.Bool.{cond}
+use mathlib.Core.List.{List}
+use Prim.Native.Nat.{ℕ, suc, _-_, _<_}
+use native.Mathlib.Omega.{arith}
+use borrow.Author.Needs.{needs, sfits-of}
+use lib.Dec.{eqb}
+use lib.IntN.{ℤ, pos}
+use lib.ListN.{length, getD, set, take}
+use mir.Syntax.{w32, w64}
+use mir.Val.{toZ, ofZ}
+use mir.Facts.{toZ-ofZ}
+use Rattle.integers.specs.Filled.{tabulate, tabulate-set}
+use Rattle.model.specs.Setup.{p, points}
+use Rattle.model.specs.Differences.{at}
+use Rattle.model.specs.Rounding.{nearest}
+use Rattle.model.specs.State.{State, Forces, PointsAndFinger}
+use Rattle.model.specs.System.{rounded₁, rounded₂}
+use Rattle.model.specs.Step as Steps
+use Rattle.model.specs.Step.{A, c, system, factor, fingerSystem}
+use Rattle.model.specs.declared.Setup.{Setup}
+use Rattle.kernel_rounding.specs.Systems.{rounded}
+use Rattle.kernel_moves.specs.MoveRanges.{sideAt, freeMoves}
+use Rattle.kernel_moves.proofs.InRange.{facts, most-points, gradient-read}
+use Rattle.kernel_moves.proofs.moves.Statement.{statement}
+use Rattle.kernel_moves.proofs.moves.Tie as tie
+use Rattle.kernel_moves.proofs.moves.Reads as reads
+use Rattle.kernel_moves.proofs.moves.Lts as lts
+use Rattle.kernel_moves.proofs.free_moves.Reads as free-moves-reads
+use Rattle.kernel_moves.proofs.moves_at_finger.Reads as moves-at-finger-reads
+use Rattle.kernel_string.proofs.differences.weighted.Reads as weighted-reads
+
+abbrev Learnt : lts.Claims
+Learnt = (weighted-reads.Asked, weighted-reads.Learnt, free-moves-reads.Asked, free-moves-reads.Learnt, moves-at-finger-reads.Asked, moves-at-finger-reads.Learnt)
+
+module _ (k : lts.Start Learnt reads.Pre reads.Post) where
+  abbrev s : Setup
+  s = k .args .setup
+
+  abbrev x : State
+  x = record { newer = k .args .newer .now; older = k .args .older .now; contact = k .args .contact .now; finger = k .args .finger }
+
+  abbrev G : PointsAndFinger
+  G = record { points = take (points s) (k .args .gradients .now); finger = k .args .gradient }
+
+  abbrev F : Forces
+  F = record { pluck = k .args .pluck; finger = k .args .force }
+
+  -- the finger's place by its index
+  place : suc (p s - 1) ≡ p s
+  place = let h = facts (k .pre .0) .first in omega arith
+
+  point : p s - 1 < points s
+  point = let h = facts (k .pre .0) .last in let i = facts (k .pre .0) .first in omega arith
+
+  in-array : p s - 1 < 127
+  in-array = let h = point in let m = most-points (k .pre .0) in omega arith
+
+  own-is : toZ w64 (ofZ w64 (getD (k .args .gradients .now) (p s - 1) (pos 0))) ≡ at (G .points) (p s)
+  own-is = gradient-read (k .args .gradients .now) (points s) (k .pre .2) (p s - 1) point ∙ ap (at (G .points)) place
+
+abbrev called : lts.After-moves-at-finger Learnt reads.Pre reads.Post → lts.Start Learnt reads.Pre reads.Post
+called d = d .before .before .before .before .before .before .before .before
+
+weighted-requires : tie.Need-weighted-requires
+weighted-requires k κs = k .pre .0 .strings
+
+free-moves-requires : tie.Need-free-moves-requires
+free-moves-requires d κs =
+    let w = d .before .before in
+    let k = w .before in
+    rw (toZ-ofZ (k .fits .pluck)) (k .pre .0, w .weighted .ensures, k .pre .1, k .pre .2, k .pre .3)
+
+moves-at-finger-requires : tie.Need-moves-at-finger-requires
+moves-at-finger-requires d κs =
+    let w = d .before .before .before .before .before .before in
+    let k = w .before in
+    rw (toZ-ofZ (k .fits .pluck), own-is k, toZ-ofZ (k .fits .gradient), toZ-ofZ (k .fits .force)) (k .pre .0, w .weighted .ensures, k .pre .2 (p (s k)), k .pre .4, k .pre .5, k .pre .6)
+
+-- the two numbers that were solved for
+solved : (d : lts.After-moves-at-finger Learnt reads.Pre reads.Post) → (let k = called d in d .moves-at-finger .result ≡ rounded (system (s k) (x k) (G k) (F k)))
+unfolding system A c
+solved d =
+    let k = called d in
+    let side = sideAt (s k) (x k .newer) (x k .older) (x k .contact) in
+    let own = at (G k .points) (p (s k)) in
+    let finger = fingerSystem (s k) (x k .finger) in
+    d .moves-at-finger .ensures
+    ∙ ap₂ (λ f own. rounded (finger (factor (s k) own) (side f own (p (s k))) (toZ w64 (ofZ w64 (G k .finger))) (toZ w32 (ofZ w32 (F k .finger))))) (toZ-ofZ (k .fits .pluck)) (own-is k)
+    ∙ ap₂ (λ g f. rounded (finger (factor (s k) own) (side (F k .pluck) own (p (s k))) g f)) (toZ-ofZ (k .fits .gradient)) (toZ-ofZ (k .fits .force))
+
+module _ (e : lts.After-result Learnt reads.Pre reads.Post) where
+  abbrev d : lts.After-moves-at-finger Learnt reads.Pre reads.Post
+  d = e .before .before
+
+  abbrev k : lts.Start Learnt reads.Pre reads.Post
+  k = called d
+
+  abbrev n : ℕ
+  n = points (s k)
+
+  -- the array that `free_moves` filled
+  abbrev array : List ℤ
+  array = d .before .before .before .before .free-moves .last .1 .1 .1 .1 .1 .1 .1 .0
+
+  abbrev move : ℕ → ℤ
+  move i = nearest (c (s k) (x k) (G k) (F k) i) (A (s k) (G k) i)
+
+  free : take n array ≡ tabulate n (λ j. move (suc j))
+  unfolding freeMoves A c
+  free = d .before .before .before .before .free-moves .ensures ∙ ap (λ f. freeMoves (s k) (x k .newer) (x k .older) (x k .contact) f (G k .points)) (toZ-ofZ (k .fits .pluck))
+
+  at-finger : toZ w64 (ofZ w64 (getD (d .moves-at-finger .result) 0 (pos 0))) ≡ rounded₁ (system (s k) (x k) (G k) (F k))
+  at-finger = toZ-ofZ (sfits-of (e .before .out .given)) ∙ ap (λ l. getD l 0 (pos 0)) (solved d)
+
+  finger-move : toZ w64 (ofZ w64 (getD (d .moves-at-finger .result) 1 (pos 0))) ≡ rounded₂ (system (s k) (x k) (G k) (F k))
+  finger-move = toZ-ofZ (sfits-of (e .result .given)) ∙ ap (λ l. getD l 1 (pos 0)) (solved d)
+
+  point-moves : take n (set array (p (s k) - 1) (toZ w64 (ofZ w64 (getD (d .moves-at-finger .result) 0 (pos 0))))) ≡ tabulate n (λ j. cond (eqb (suc j) (p (s k))) (rounded₁ (system (s k) (x k) (G k) (F k))) (move (suc j)))
+  point-moves = tabulate-set (pos 0) n (λ j. move (suc j)) (p (s k) - 1) array (toZ w64 (ofZ w64 (getD (d .moves-at-finger .result) 0 (pos 0)))) (point k) free
+      ∙ ap₂ (λ (i : ℕ) y. tabulate n (λ j. cond (eqb (suc j) i) y (move (suc j)))) (place k) at-finger
+
+returns : tie.Need-returns
+unfolding Steps.moves
+returns e = ap₂ (λ points finger. record { points = points; finger = finger }) (point-moves e) (finger-move e)
+
+pub moves-spec : {M : Type 1} → statement M
+moves-spec =
+    tie.close
+    (tie.spec
+    weighted-requires
+    free-moves-requires
+    (λ c. search needs)
+    (λ d. facts (d .before .before .before .before .before .pre .0) .first)
+    (λ d. omega (arith, in-array (d .before .before .before .before .before)))
+    (λ d. in-array (d .before .before .before .before .before))
+    moves-at-finger-requires
+    (λ c. search needs)
+    (λ d. facts (called (d .before) .pre .0) .first)
+    (λ d. omega (arith, in-array (called (d .before))))
+    (λ d. in-array (called (d .before)))
+    (λ c. search needs)
+    returns)

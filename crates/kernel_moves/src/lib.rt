@@ -1,0 +1,115 @@
+// 01, 'One step': the moves of a step, δ of each point and δw of the finger.
+ghost use mathlib.Core.Path.{_≡_};
+ghost use mathlib.Core.Bool.{cond};
+ghost use lib.Dec.{T, eqb};
+ghost use lib.IntN.{pos};
+ghost use lib.ListN.{length, take};
+ghost use Rattle.integers.specs.Size.{_within_};
+ghost use Rattle.laws.specs.Sizes.{Bounded};
+ghost use Rattle.model.specs.Ranges.{forceOk};
+ghost use Rattle.model.specs.Setup.{p, e, points};
+ghost use Rattle.model.specs.Step as Steps;
+ghost use Rattle.model.specs.Step.{factor, fingerSystem};
+ghost use Rattle.kernel_rounding.specs.Systems.{rounded, FingerRanges};
+ghost use Rattle.kernel_string.specs.Weighted as Weights;
+ghost use Rattle.kernel_string.specs.Weighted.{placed};
+ghost use Rattle.kernel_moves.specs.MoveRanges.{MoveRanges, sideAt, freeMoves};
+use kernel_rounding::system::finger_moves;
+use kernel_string::differences::weighted;
+use kernel_string::point::point_equation;
+use kernel_string::point::point_move;
+use model::Finger;
+use model::Setup;
+
+// The pluck force at a place: it acts at e alone.
+fn force_at(setup: Setup, pluck: i32, place: usize) -> i32
+    ensures { λ r. ⌜ r ≡ cond (eqb place (e setup)) pluck (pos 0) ⌝ }
+{
+    if place == setup.pluck_place as usize {
+        pluck
+    } else {
+        0
+    }
+}
+
+// The moves of all points, were there no finger, at the front of `out`. `weights` is the weighted string.
+fn free_moves(
+    setup: Setup,
+    weights: &[i64; 129],
+    newer: &[i32],
+    older: &[i32],
+    contact: &[i32],
+    gradients: &[i64; 127],
+    pluck: i32,
+    out: &mut [i64; 127],
+)
+    requires { ⌜ MoveRanges setup (now newer) (now older) (now contact) pluck
+        × (now weights ≡ placed (Weights.weighted setup (now newer) (now older)))
+        × (length (now gradients) ≡ 127) × Bounded (take (points setup) (now gradients)) 255 × (length (now out) ≡ 127) ⌝ }
+    ensures { λ r. ⌜ take (points setup) (now (out .exit))
+        ≡ freeMoves setup (now (newer .entry)) (now (older .entry)) (now (contact .entry)) pluck (take (points setup) (now (gradients .entry))) ⌝ }
+{
+    for i in 0..newer.len() {
+        let force = force_at(setup, pluck, i + 1);
+        let gradient = gradients[i];
+        let equation = point_equation(setup, weights, newer, older, contact, gradient, force, i);
+        out[i] = point_move(equation);
+    }
+}
+
+// δ at p and δw: the finger's two-by-two system, solved. `own` is the gradient of the point at p, `gradient` the finger's.
+fn moves_at_finger(
+    setup: Setup,
+    weights: &[i64; 129],
+    newer: &[i32],
+    older: &[i32],
+    contact: &[i32],
+    own: i64,
+    finger: Finger,
+    gradient: i64,
+    pluck: i32,
+    force: i32,
+) -> [i64; 2]
+    requires { ⌜ MoveRanges setup (now newer) (now older) (now contact) pluck
+        × (now weights ≡ placed (Weights.weighted setup (now newer) (now older)))
+        × (own within 255) × FingerRanges finger × (gradient within 255) × T (forceOk force) ⌝ }
+    ensures { λ r. ⌜ r ≡ rounded (fingerSystem setup finger (factor setup own)
+        (sideAt setup (now (newer .entry)) (now (older .entry)) (now (contact .entry)) pluck own (p setup)) gradient force) ⌝ }
+{
+    let place = setup.finger.place as usize;
+    let pluck_at = force_at(setup, pluck, place);
+    let equation = point_equation(setup, weights, newer, older, contact, own, pluck_at, place - 1);
+    finger_moves(setup, finger, equation.factor, equation.side, gradient, force)
+}
+
+// δ of each point, at the front of `out`, and δw, from the gradients of the points and the finger's.
+pub fn moves(
+    setup: Setup,
+    newer: &[i32],
+    older: &[i32],
+    contact: &[i32],
+    gradients: &[i64; 127],
+    finger: Finger,
+    gradient: i64,
+    pluck: i32,
+    force: i32,
+    out: &mut [i64; 127],
+) -> i64
+    requires { ⌜ MoveRanges setup (now newer) (now older) (now contact) pluck
+        × (length (now gradients) ≡ 127) × Bounded (take (points setup) (now gradients)) 255 × (length (now out) ≡ 127)
+        × FingerRanges finger × (gradient within 255) × T (forceOk force) ⌝ }
+    ensures { λ r. ⌜ record { points = take (points setup) (now (out .exit)); finger = r } ≡ Steps.moves setup
+        (record { newer = now (newer .entry); older = now (older .entry); contact = now (contact .entry); finger = finger })
+        (record { points = take (points setup) (now (gradients .entry)); finger = gradient })
+        (record { pluck = pluck; finger = force }) ⌝ }
+{
+    let weights = weighted(setup, newer, older);
+    free_moves(setup, &weights, newer, older, contact, gradients, pluck, out);
+    let place = setup.finger.place as usize;
+    let own = gradients[place - 1];
+    let pair = moves_at_finger(
+        setup, &weights, newer, older, contact, own, finger, gradient, pluck, force,
+    );
+    out[place - 1] = pair[0];
+    pair[1]
+}

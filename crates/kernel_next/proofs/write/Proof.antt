@@ -1,0 +1,74 @@
+-- `write` meets its contract. The loop's invariant: the numbers below index i are written.
+use mathlib.Core.Path.{refl, sym, _∙_}
+use mathlib.Core.List.{List}
+use Prim.Native.Nat.{ℕ, suc, _-_, _<_}
+use native.Mathlib.Omega.{arith}
+use lib.IntN.{ℤ, pos}
+use lib.ListN.{length, getD, take}
+use mir.Syntax.{w32, w64}
+use mir.Val.{SFits}
+use Rattle.integers.specs.Bits.{narrow-fits, narrow-is}
+use Rattle.integers.specs.Size.{fits}
+use Rattle.integers.specs.Filled.{Filled, filled-none, filled-more, filled-all}
+use Rattle.model.specs.Differences.{at}
+use Rattle.laws.specs.Strings.{by-places}
+use Rattle.kernel_next.proofs.Front.{front-spans, front-at, front-within}
+use Rattle.kernel_next.proofs.write.Statement.{statement}
+use Rattle.kernel_next.proofs.write.Tie as tie
+use Rattle.kernel_next.proofs.write.Reads as reads
+use Rattle.kernel_next.proofs.write.Lts as lts
+
+abbrev Inv-loop : tie.InvT-loop
+Inv-loop numbers out₀ i₀ i-end out i = Filled (pos 0) (length out₀) (λ k. at (take (length out₀) numbers) (suc k)) i out
+
+abbrev μ-loop : tie.MeasureT-loop
+μ-loop numbers out₀ i₀ i-end out i = length out₀ - i
+
+-- a turn
+module _ (c : lts.In-loop reads.Pre reads.Post Inv-loop μ-loop) where
+  abbrev start : lts.Start reads.Pre reads.Post Inv-loop μ-loop
+  start = c .before .before
+
+  abbrev numbers : List ℤ
+  numbers = start .args .numbers .now
+
+  abbrev i : ℕ
+  i = c .before .loop .i
+
+  more : i < length (start .args .out .now)
+  more = omega (arith, c .loop-test .taken)
+
+  in-numbers : i < 127
+  in-numbers = omega (arith, more, start .pre .1)
+
+  in-out : i < length (c .before .loop .out)
+  in-out = omega (arith, more, c .before .loop .inv .len)
+
+  number-fits : SFits w32 (getD numbers i (pos 0))
+  number-fits = fits (front-within numbers (start .pre .2) i more) tt
+
+loop-again : tie.Need-loop-again Inv-loop μ-loop
+loop-again c = let turn = c .before in filled-more (more turn) (turn .before .loop .inv) (narrow-is w64 tt (number-fits turn) ∙ sym (front-at (numbers turn) (i turn) (more turn)))
+
+returns : tie.Need-returns Inv-loop μ-loop
+returns c =
+    let start = c .before .before in
+    filled-all (c .loop-test .left) (c .before .loop .inv) ∙ by-places (front-spans (start .args .numbers .now) (start .pre .0) (start .pre .1))
+
+pub write-spec : {M : Type 1} → statement M
+write-spec =
+    tie.close
+    (tie.spec
+    Inv-loop
+    μ-loop
+    (λ c. filled-none refl)
+    (λ c. omega (arith, in-numbers c))
+    in-numbers
+    (λ c. narrow-fits w64 tt (number-fits (c .before)))
+    (λ c. omega (arith, in-numbers (c .before)))
+    (λ c. in-out (c .before))
+    (λ c. omega (arith, in-numbers (c .before)))
+    (λ c. omega (arith, more (c .before)))
+    loop-again
+    (λ c. c .before .loop .inv .len)
+    returns)

@@ -1,0 +1,2 @@
+-- What the proofs of a step share.
+mod Called

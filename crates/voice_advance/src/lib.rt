@@ -1,0 +1,78 @@
+// 01, 'One step': a step of a voice that is ready, with rows 1 to 5, 6, 7 and 11 passed. Everything is worked out and judged before anything is written.
+mod work;
+
+ghost use mathlib.Core.Path.{_≡_};
+ghost use Rattle.kernel_contact.specs.Table.{rootTable};
+ghost use Rattle.laws.specs.Advance as Steps;
+ghost use Rattle.laws.specs.Advance.{advancedResult};
+ghost use Rattle.laws.specs.Ready.{Ready};
+use crate::work::work_out;
+use kernel_next::next_finger;
+use kernel_next::write;
+use kernel_samples::pickup_frame;
+use model::Finger;
+use model::Setup;
+use model::StepAnswer;
+use model::Stepped;
+use voice_rows::forces_ok;
+use voice_rows::new_contact_variables_ok;
+use voice_rows::new_string_ok;
+
+// Steps from the newer and the older string: writes the new string over the older one and the contact variables, and answers with the turn that
+// it is given; or answers 12, 13 or 14 and leaves them.
+pub fn advance(
+    setup: Setup,
+    roots: &[u16; 1024],
+    heights: &[i32],
+    stiffness: &[u16],
+    newer: &[i32],
+    older: &mut [i32],
+    contact: &mut [i32],
+    turn: u32,
+    finger: Finger,
+    pluck: i32,
+    force: i32,
+) -> StepAnswer
+    requires { ⌜ (now roots ≡ rootTable)
+        × Ready setup (record { heights = now heights; stiffness = now stiffness }) (record { newer = now newer; older = now older; contact = now contact; finger = finger }) ⌝ }
+    ensures { λ r. ⌜ advancedResult r (now (older .exit)) (now (contact .exit)) ≡ Steps.advance turn setup
+        (record { heights = now (heights .entry); stiffness = now (stiffness .entry) })
+        (record { newer = now (newer .entry); older = now (older .entry); contact = now (contact .entry); finger = finger })
+        (record { pluck = pluck; finger = force }) ⌝ }
+{
+    if !forces_ok(pluck, force) {
+        return StepAnswer::Refused(12);
+    }
+    let mut string = [0i64; 127];
+    let mut contacts = [0i64; 127];
+    let next = work_out(
+        setup,
+        roots,
+        heights,
+        stiffness,
+        newer,
+        older,
+        contact,
+        finger,
+        pluck,
+        force,
+        &mut string,
+        &mut contacts,
+    );
+    let points = newer.len();
+    if !new_string_ok(next.height, &string, points) {
+        return StepAnswer::Refused(13);
+    }
+    if !new_contact_variables_ok(next.contact, &contacts, points) {
+        return StepAnswer::Refused(14);
+    }
+    write(&string, older);
+    write(&contacts, contact);
+    let frame = pickup_frame(setup, older);
+    let moved = next_finger(finger.newer, next.height, next.contact);
+    StepAnswer::Accepted(Stepped {
+        turn,
+        finger: moved,
+        frame,
+    })
+}

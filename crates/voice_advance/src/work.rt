@@ -1,0 +1,71 @@
+// 01, 'One step': what a step leads to, worked out into local arrays before it is judged.
+ghost use mathlib.Core.Path.{_≡_};
+ghost use lib.ListN.{length, take};
+ghost use Rattle.model.specs.Setup.{points};
+ghost use Rattle.model.specs.Step.{callRules, workedStep, nextState};
+ghost use Rattle.promises.specs.Promises.{Passed};
+ghost use Rattle.kernel_contact.specs.Table.{rootTable};
+use kernel_gradients::finger_gradient;
+use kernel_gradients::point_gradients;
+use kernel_moves::moves;
+use kernel_next::next_contact;
+use kernel_next::next_finger_contact;
+use kernel_next::next_height;
+use kernel_next::next_string;
+use model::Finger;
+use model::Setup;
+
+// The finger's new height and contact variable, before they are judged.
+pub struct NewFinger {
+    pub height: i64,
+    pub contact: i64,
+}
+
+// The new string and the new contact variables, at the front of `string` and `contacts`, and the new finger.
+pub fn work_out(
+    setup: Setup,
+    roots: &[u16; 1024],
+    heights: &[i32],
+    stiffness: &[u16],
+    newer: &[i32],
+    older: &[i32],
+    contact: &[i32],
+    finger: Finger,
+    pluck: i32,
+    force: i32,
+    string: &mut [i64; 127],
+    contacts: &mut [i64; 127],
+) -> NewFinger
+    requires { ⌜ (now roots ≡ rootTable) × Passed (callRules setup
+        (record { heights = now heights; stiffness = now stiffness })
+        (record { newer = now newer; older = now older; contact = now contact; finger = finger })
+        (record { pluck = pluck; finger = force }))
+        × (length (now string) ≡ 127) × (length (now contacts) ≡ 127) ⌝ }
+    ensures { λ r. ⌜ record {
+      newer = take (points setup) (now (string .exit));
+      older = now (newer .entry);
+      contact = take (points setup) (now (contacts .exit));
+      finger = record { newer = r .height; older = finger .newer; contact = r .contact };
+    } ≡ nextState (workedStep setup
+        (record { heights = now (heights .entry); stiffness = now (stiffness .entry) })
+        (record { newer = now (newer .entry); older = now (older .entry); contact = now (contact .entry); finger = finger })
+        (record { pluck = pluck; finger = force })) ⌝ }
+{
+    let mut gradients = [0i64; 127];
+    point_gradients(roots, heights, stiffness, newer, &mut gradients);
+    let gradient = finger_gradient(roots, setup, newer, finger);
+    let mut changes = [0i64; 127];
+    let finger_change = moves(
+        setup, newer, older, contact, &gradients, finger, gradient, pluck, force, &mut changes,
+    );
+    next_string(older, &changes, string);
+    next_contact(contact, &gradients, &changes, contacts);
+    let place = setup.finger.place as usize;
+    let change = changes[place - 1];
+    let height = next_height(finger.older, finger_change);
+    let contact_variable = next_finger_contact(finger.contact, gradient, change, finger_change);
+    NewFinger {
+        height,
+        contact: contact_variable,
+    }
+}

@@ -1,0 +1,64 @@
+// 01, 'One step': a step, whose arguments are all examined, in the order of its table of refusals.
+ghost use mathlib.Core.Path.{_≡_};
+ghost use Rattle.model.specs.Answers.{stepResult};
+ghost use Rattle.model.specs.Step as Steps;
+use kernel_contact::roots::root_table;
+use kernel_ranges::heights_ok;
+use model::Finger;
+use model::Setup;
+use model::StepAnswer;
+use voice_advance::advance;
+use voice_rows::state_ok;
+use voice_setup::buffers::five_lengths_ok;
+use voice_setup::setup_refusal;
+
+// Steps the voice: writes the new string over the older of the two string buffers and the contact variables, and answers turn, finger and frame;
+// or answers the number and leaves every buffer. Turn 0 means that the first string is newer, any other number the second.
+pub fn step(
+    setup: Setup,
+    heights: &[i32],
+    stiffness: &[u16],
+    first: &mut [i32],
+    second: &mut [i32],
+    contact: &mut [i32],
+    turn: u32,
+    finger: Finger,
+    pluck: i32,
+    force: i32,
+) -> StepAnswer
+    ensures { λ r. ⌜ stepResult turn finger r (now (first .exit)) (now (second .exit)) (now (contact .exit)) ≡ Steps.step setup
+        (record { heights = now (heights .entry); stiffness = now (stiffness .entry) })
+        (record { first = now (first .entry); second = now (second .entry); contact = now (contact .entry); turn = turn; finger = finger })
+        (record { pluck = pluck; finger = force }) ⌝ }
+{
+    let refusal = setup_refusal(setup);
+    if refusal != 0 {
+        return StepAnswer::Refused(refusal);
+    }
+    if !five_lengths_ok(
+        setup,
+        heights.len(),
+        stiffness.len(),
+        first.len(),
+        second.len(),
+        contact.len(),
+    ) {
+        return StepAnswer::Refused(6);
+    }
+    if !heights_ok(heights) {
+        return StepAnswer::Refused(7);
+    }
+    if !state_ok(first, second, contact, finger) {
+        return StepAnswer::Refused(11);
+    }
+    let roots = root_table();
+    if turn == 0 {
+        advance(
+            setup, &roots, heights, stiffness, first, second, contact, 1, finger, pluck, force,
+        )
+    } else {
+        advance(
+            setup, &roots, heights, stiffness, second, first, contact, 0, finger, pluck, force,
+        )
+    }
+}
