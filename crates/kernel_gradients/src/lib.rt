@@ -27,7 +27,8 @@ pub fn point_gradients(
         × (length (now heights) ≡ length (now newer)) × (length (now stiffness) ≡ length (now newer))
         × (length (now newer) ≤ 127) × (length (now out) ≡ 127)
         × T (all heightOk (now heights)) × T (all displacementOk (now newer)) ⌝ }
-    ensures { λ r. ⌜ take (length (now (newer .entry))) (now (out .exit)) ≡ zipWith gradient (now (stiffness .entry)) (minus (now (heights .entry)) (now (newer .entry))) ⌝ }
+    ensures { λ r. ⌜ (length (now (out .exit)) ≡ 127)
+        × (take (length (now (newer .entry))) (now (out .exit)) ≡ zipWith gradient (now (stiffness .entry)) (minus (now (heights .entry)) (now (newer .entry)))) ⌝ }
 {
     for i in 0..newer.len() {
         let height = heights[i];

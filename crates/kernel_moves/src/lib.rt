@@ -46,8 +46,8 @@ fn free_moves(
     requires { ⌜ MoveRanges setup (now newer) (now older) (now contact) pluck
         × (now weights ≡ placed (Weights.weighted setup (now newer) (now older)))
         × (length (now gradients) ≡ 127) × Bounded (take (points setup) (now gradients)) 255 × (length (now out) ≡ 127) ⌝ }
-    ensures { λ r. ⌜ take (points setup) (now (out .exit))
-        ≡ freeMoves setup (now (newer .entry)) (now (older .entry)) (now (contact .entry)) pluck (take (points setup) (now (gradients .entry))) ⌝ }
+    ensures { λ r. ⌜ (length (now (out .exit)) ≡ 127) × (take (points setup) (now (out .exit))
+        ≡ freeMoves setup (now (newer .entry)) (now (older .entry)) (now (contact .entry)) pluck (take (points setup) (now (gradients .entry)))) ⌝ }
 {
     for i in 0..newer.len() {
         let force = force_at(setup, pluck, i + 1);
@@ -78,8 +78,24 @@ fn moves_at_finger(
 {
     let place = setup.finger.place as usize;
     let pluck_at = force_at(setup, pluck, place);
-    let equation = point_equation(setup, weights, newer, older, contact, own, pluck_at, place - 1);
-    finger_moves(setup, finger, equation.factor, equation.side, gradient, force)
+    let equation = point_equation(
+        setup,
+        weights,
+        newer,
+        older,
+        contact,
+        own,
+        pluck_at,
+        place - 1,
+    );
+    finger_moves(
+        setup,
+        finger,
+        equation.factor,
+        equation.side,
+        gradient,
+        force,
+    )
 }
 
 // δ of each point, at the front of `out`, and δw, from the gradients of the points and the finger's.
@@ -98,17 +114,35 @@ pub fn moves(
     requires { ⌜ MoveRanges setup (now newer) (now older) (now contact) pluck
         × (length (now gradients) ≡ 127) × Bounded (take (points setup) (now gradients)) 255 × (length (now out) ≡ 127)
         × FingerRanges finger × (gradient within 255) × T (forceOk force) ⌝ }
-    ensures { λ r. ⌜ record { points = take (points setup) (now (out .exit)); finger = r } ≡ Steps.moves setup
+    ensures { λ r. ⌜ (length (now (out .exit)) ≡ 127) × (record { points = take (points setup) (now (out .exit)); finger = r } ≡ Steps.moves setup
         (record { newer = now (newer .entry); older = now (older .entry); contact = now (contact .entry); finger = finger })
         (record { points = take (points setup) (now (gradients .entry)); finger = gradient })
-        (record { pluck = pluck; finger = force }) ⌝ }
+        (record { pluck = pluck; finger = force })) ⌝ }
 {
     let weights = weighted(setup, newer, older);
-    free_moves(setup, &weights, newer, older, contact, gradients, pluck, out);
+    free_moves(
+        setup,
+        &weights,
+        newer,
+        older,
+        contact,
+        gradients,
+        pluck,
+        out,
+    );
     let place = setup.finger.place as usize;
     let own = gradients[place - 1];
     let pair = moves_at_finger(
-        setup, &weights, newer, older, contact, own, finger, gradient, pluck, force,
+        setup,
+        &weights,
+        newer,
+        older,
+        contact,
+        own,
+        finger,
+        gradient,
+        pluck,
+        force,
     );
     out[place - 1] = pair[0];
     pair[1]

@@ -15,7 +15,8 @@ use model::Finger;
 pub fn next_string(older: &[i32], moves: &[i64; 127], out: &mut [i64; 127])
     requires { ⌜ (length (now older) ≤ 127) × (length (now moves) ≡ 127) × (length (now out) ≡ 127)
         × Bounded (take (length (now older)) (now moves)) (2 ^ 32) ⌝ }
-    ensures { λ r. ⌜ take (length (now (older .entry))) (now (out .exit)) ≡ plus (now (older .entry)) (take (length (now (older .entry))) (now (moves .entry))) ⌝ }
+    ensures { λ r. ⌜ (length (now (out .exit)) ≡ 127)
+        × (take (length (now (older .entry))) (now (out .exit)) ≡ plus (now (older .entry)) (take (length (now (older .entry))) (now (moves .entry)))) ⌝ }
 {
     for i in 0..older.len() {
         let own = older[i];
@@ -34,8 +35,8 @@ pub fn next_contact(
     requires { ⌜ (length (now contact) ≤ 127) × (length (now gradients) ≡ 127) × (length (now moves) ≡ 127) × (length (now out) ≡ 127)
         × Bounded (take (length (now contact)) (now gradients)) 255
         × Bounded (take (length (now contact)) (now moves)) (2 ^ 32) ⌝ }
-    ensures { λ r. ⌜ take (length (now (contact .entry))) (now (out .exit))
-        ≡ minus (now (contact .entry)) (times (take (length (now (contact .entry))) (now (gradients .entry))) (take (length (now (contact .entry))) (now (moves .entry)))) ⌝ }
+    ensures { λ r. ⌜ (length (now (out .exit)) ≡ 127) × (take (length (now (contact .entry))) (now (out .exit))
+        ≡ minus (now (contact .entry)) (times (take (length (now (contact .entry))) (now (gradients .entry))) (take (length (now (contact .entry))) (now (moves .entry))))) ⌝ }
 {
     for i in 0..contact.len() {
         let own = contact[i];

@@ -78,7 +78,7 @@ last-rows false true c n q = inr (inl (sym q))
 last-rows false false true n q = inr (inr (sym q))
 last-rows false false false n q = absurd (omega arith)
 
--- where a voice is ready, the rows below those four give the number
+-- the rows below those that a ready voice has passed give its number
 pub rows-left : {s : Setup} {neck : Neck} {x : State} → Ready s neck x → (rules : List Rule)
     → firstOf (setupRules s ++ buffersRule s neck x ∷ heightsRule (neck .heights) ∷ stateRule x ∷ rules) ≡ firstOf rules
 unfolding setupRules

@@ -1,15 +1,13 @@
 // 01, 'One step': a step of a voice that is ready, with rows 1 to 5, 6, 7 and 11 passed. Everything is worked out and judged before anything is written.
-mod work;
-
 ghost use mathlib.Core.Path.{_≡_};
 ghost use Rattle.kernel_contact.specs.Table.{rootTable};
 ghost use Rattle.laws.specs.Advance as Steps;
 ghost use Rattle.laws.specs.Advance.{advancedResult};
 ghost use Rattle.laws.specs.Ready.{Ready};
-use crate::work::work_out;
 use kernel_next::next_finger;
 use kernel_next::write;
 use kernel_samples::pickup_frame;
+use kernel_step::work_out;
 use model::Finger;
 use model::Setup;
 use model::StepAnswer;

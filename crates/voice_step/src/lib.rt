@@ -54,11 +54,31 @@ pub fn step(
     let roots = root_table();
     if turn == 0 {
         advance(
-            setup, &roots, heights, stiffness, first, second, contact, 1, finger, pluck, force,
+            setup,
+            &roots,
+            heights,
+            stiffness,
+            first,
+            second,
+            contact,
+            1,
+            finger,
+            pluck,
+            force,
         )
     } else {
         advance(
-            setup, &roots, heights, stiffness, second, first, contact, 0, finger, pluck, force,
+            setup,
+            &roots,
+            heights,
+            stiffness,
+            second,
+            first,
+            contact,
+            0,
+            finger,
+            pluck,
+            force,
         )
     }
 }

@@ -117,7 +117,7 @@ loop-again c =
 returns : tie.Need-returns Inv-loop μ-loop
 returns c =
     let start = c .before .before .before in
-    filled-first (c .loop-test .left) (start .pre .3) (c .before .loop .inv) ∙ by-places (made-spans start)
+    (c .before .loop .inv .len, filled-first (c .loop-test .left) (start .pre .3) (c .before .loop .inv) ∙ by-places (made-spans start))
 
 pub point-gradients-spec : {M : Type 1} → statement M
 point-gradients-spec =

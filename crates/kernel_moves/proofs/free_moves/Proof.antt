@@ -108,7 +108,7 @@ unfolding freeMoves
 returns c =
     let s = c .before .before in
     let e = s .pre .0 .strings .newer-length in
-    rw (toZ-ofZ (s .fits .pluck)) at (filled-first {m = points (s .args .setup)} (omega (arith, c .loop-test .left)) (most-points (s .pre .0)) (c .before .loop .inv))
+    (c .before .loop .inv .len, rw (toZ-ofZ (s .fits .pluck)) at (filled-first {m = points (s .args .setup)} (omega (arith, c .loop-test .left)) (most-points (s .pre .0)) (c .before .loop .inv)))
 
 pub free-moves-spec : {M : Type 1} → statement M
 free-moves-spec =

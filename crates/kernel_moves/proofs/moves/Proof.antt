@@ -7,7 +7,7 @@ use native.Mathlib.Omega.{arith}
 use borrow.Author.Needs.{needs, sfits-of}
 use lib.Dec.{eqb}
 use lib.IntN.{ℤ, pos}
-use lib.ListN.{length, getD, set, take}
+use lib.ListN.{getD, set, take, length-set}
 use mir.Syntax.{w32, w64}
 use mir.Val.{toZ, ofZ}
 use mir.Facts.{toZ-ofZ}
@@ -109,7 +109,7 @@ module _ (e : lts.After-result Learnt reads.Pre reads.Post) where
 
   free : take n array ≡ tabulate n (λ j. move (suc j))
   unfolding freeMoves A c
-  free = d .before .before .before .before .free-moves .ensures ∙ ap (λ f. freeMoves (s k) (x k .newer) (x k .older) (x k .contact) f (G k .points)) (toZ-ofZ (k .fits .pluck))
+  free = d .before .before .before .before .free-moves .ensures .1 ∙ ap (λ f. freeMoves (s k) (x k .newer) (x k .older) (x k .contact) f (G k .points)) (toZ-ofZ (k .fits .pluck))
 
   at-finger : toZ w64 (ofZ w64 (getD (d .moves-at-finger .result) 0 (pos 0))) ≡ rounded₁ (system (s k) (x k) (G k) (F k))
   at-finger = toZ-ofZ (sfits-of (e .before .out .given)) ∙ ap (λ l. getD l 0 (pos 0)) (solved d)
@@ -123,7 +123,10 @@ module _ (e : lts.After-result Learnt reads.Pre reads.Post) where
 
 returns : tie.Need-returns
 unfolding Steps.moves
-returns e = ap₂ (λ points finger. record { points = points; finger = finger }) (point-moves e) (finger-move e)
+returns e = (
+  length-set (array e) (p (s (k e)) - 1) _ ∙ d e .before .before .before .before .free-moves .ensures .0,
+  ap₂ (λ points finger. record { points = points; finger = finger }) (point-moves e) (finger-move e),
+)
 
 pub moves-spec : {M : Type 1} → statement M
 moves-spec =

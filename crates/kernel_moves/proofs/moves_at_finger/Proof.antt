@@ -57,8 +57,7 @@ point-equation-requires c κs =
     let k = a c in
     let h = k .pre .0 in
     let last = facts h .last in
-    let first = facts h .first in
-    (
+    let first = facts h .first in (
       h .strings,
       k .pre .1,
       h .contact-length,

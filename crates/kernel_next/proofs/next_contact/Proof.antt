@@ -87,7 +87,7 @@ loop-again c =
 returns : tie.Need-returns Inv-loop μ-loop
 returns c =
     let start = c .before .before in
-    filled-first (c .loop-test .left) (start .pre .0) (c .before .loop .inv) ∙ by-places (spans-minus (contact-spans start) (products-span start))
+    (c .before .loop .inv .len, filled-first (c .loop-test .left) (start .pre .0) (c .before .loop .inv) ∙ by-places (spans-minus (contact-spans start) (products-span start)))
 
 pub next-contact-spec : {M : Type 1} → statement M
 next-contact-spec =

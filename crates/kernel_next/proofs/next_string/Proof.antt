@@ -73,7 +73,7 @@ loop-again c =
 returns : tie.Need-returns Inv-loop μ-loop
 returns c =
     let start = c .before .before in
-    filled-first (c .loop-test .left) (start .pre .0) (c .before .loop .inv) ∙ by-places (spans-plus (older-spans start) (moves-spans start))
+    (c .before .loop .inv .len, filled-first (c .loop-test .left) (start .pre .0) (c .before .loop .inv) ∙ by-places (spans-plus (older-spans start) (moves-spans start)))
 
 pub next-string-spec : {M : Type 1} → statement M
 next-string-spec =

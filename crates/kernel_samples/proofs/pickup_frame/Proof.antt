@@ -1,17 +1,17 @@
 -- The number that is read at a pickup's place is the string's displacement there, which lies in range.
 use mathlib.Core.Path.{_≡_, sym, _∙_, ap₂, subst}
 use mathlib.Core.List.{List}
-use Prim.Native.Nat.{ℕ, _-_, _≤_}
+use Prim.Native.Nat.{ℕ, _-_}
 use native.Mathlib.Omega.{arith}
 use borrow.Author.Needs.{needs, sfits-of}
 use lib.Dec.{T}
 use lib.IntN.{ℤ, pos}
 use lib.ListN.{getD}
 use mir.Syntax.{w32}
-use mir.Val.{SFits, toZ, ofZ}
+use mir.Val.{toZ, ofZ}
 use mir.Facts.{toZ-ofZ}
 use Rattle.model.specs.Differences.{at}
-use Rattle.model.specs.Ranges.{all, inside, displacementOk}
+use Rattle.model.specs.Ranges.{inside, displacementOk}
 use Rattle.model.specs.Step.{frameOf}
 use Rattle.laws.specs.Accepted.{SetupFacts, setup-facts}
 use Rattle.laws.specs.Refusals.{at-all}

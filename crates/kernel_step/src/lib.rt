@@ -41,7 +41,7 @@ pub fn work_out(
         (record { newer = now newer; older = now older; contact = now contact; finger = finger })
         (record { pluck = pluck; finger = force }))
         × (length (now string) ≡ 127) × (length (now contacts) ≡ 127) ⌝ }
-    ensures { λ r. ⌜ record {
+    ensures { λ r. ⌜ (length (now (string .exit)) ≡ 127) × (length (now (contacts .exit)) ≡ 127) × (record {
       newer = take (points setup) (now (string .exit));
       older = now (newer .entry);
       contact = take (points setup) (now (contacts .exit));
@@ -49,14 +49,23 @@ pub fn work_out(
     } ≡ nextState (workedStep setup
         (record { heights = now (heights .entry); stiffness = now (stiffness .entry) })
         (record { newer = now (newer .entry); older = now (older .entry); contact = now (contact .entry); finger = finger })
-        (record { pluck = pluck; finger = force })) ⌝ }
+        (record { pluck = pluck; finger = force }))) ⌝ }
 {
     let mut gradients = [0i64; 127];
     point_gradients(roots, heights, stiffness, newer, &mut gradients);
     let gradient = finger_gradient(roots, setup, newer, finger);
     let mut changes = [0i64; 127];
     let finger_change = moves(
-        setup, newer, older, contact, &gradients, finger, gradient, pluck, force, &mut changes,
+        setup,
+        newer,
+        older,
+        contact,
+        &gradients,
+        finger,
+        gradient,
+        pluck,
+        force,
+        &mut changes,
     );
     next_string(older, &changes, string);
     next_contact(contact, &gradients, &changes, contacts);
