@@ -1,5 +1,5 @@
 -- Refusal tables: what the number says of the conditions, and the other way round.
-use mathlib.Core.Path.{_≡_, refl, sym, _∙_, ap}
+use mathlib.Core.Path.{_≡_, refl, sym, _∙_, ap, subst}
 use mathlib.Core.Bool.{Bool, true, false, not, _&&_, cond, and-assoc}
 use mathlib.Core.List.{List, [], _∷_, _++_}
 use Prim.Native.Nat.{ℕ, zero, suc, _<_}
@@ -164,6 +164,14 @@ module _ {rules rest : List Rule} {n : ℕ} {b t : Bool} where
 
   pub row-holds-not : Reached rules ((n when not b) ∷ rest) → t ≡ b → not t ≡ true → firstOf rules ≡ n
   row-holds-not r e l = row-holds r (ap not e) l
+
+-- what a test `not t` that was left says of the condition
+pub row-fact : {b t : Bool} → t ≡ b → not t ≡ false → T b
+row-fact {b} {t} e l = go t e l
+  where
+    go : (t : Bool) → t ≡ b → not t ≡ false → T b
+    go true e l = subst T e tt
+    go false e l = absurd (subst T l tt)
 
 -- a number that the front gives is the table's
 pub front-number : (front back : List Rule) (n : ℕ) → n ≡ firstOf front → (n ≡ 0 → ⊥) → firstOf (front ++ back) ≡ n
