@@ -3,6 +3,7 @@ use mathlib.Core.Path.{_≡_, refl, sym, _∙_, ap, subst}
 use mathlib.Core.Bool.{Bool, true, false, not, _&&_, and-comm}
 use mathlib.Core.List.{List, [], _∷_}
 use Prim.Native.Nat.{ℕ, zero, suc}
+use native.Mathlib.Omega.{arith}
 use lib.IntN.{ℤ}
 use lib.ListN.{length}
 use Rattle.model.specs.Ranges.{all, displacementOk, contactOk}
@@ -90,7 +91,7 @@ by-advance s neck v F ready r older contact e =
 -- ---- rows 6 and 11 do not depend on the turn
 
 module _ (v : Lent) where
-  abbrev withStrings : List ℤ → List ℤ → State
+  abbrev pub withStrings : List ℤ → List ℤ → State
   withStrings newer older = record { newer = newer; older = older; contact = v .contact; finger = v .finger }
 
   -- the strings in the order in which they are lent
@@ -128,3 +129,40 @@ ready-in-order {s} {neck} v r = record {
   heights = r .heights;
   state = subst (λ ok. Passed (11 when not ok ∷ [])) (same-state v) (r .state);
 }
+
+-- ---- the two orders in which a step is given the strings
+
+module _ (s : Setup) (neck : Neck) (v : Lent) (F : Forces) where
+  abbrev atTurn : ℕ → Lent
+  atTurn t = record { first = v .first; second = v .second; contact = v .contact; turn = t; finger = v .finger }
+
+  -- at turn 0 the first string is newer
+  pub advanced-first : Ready s neck (stateOf v) → v .turn ≡ 0 → (r : StepAnswer) (older contact : List ℤ)
+      → advancedResult r older contact ≡ advance 1 s neck (withStrings v (v .first) (v .second)) F → stepResult (v .turn) (v .finger) r (v .first) older contact ≡ step s neck v F
+  unfolding stateOf
+  advanced-first = go (v .turn)
+    where
+      go : (t : ℕ) → Ready s neck (stateOf (atTurn t)) → t ≡ 0 → (r : StepAnswer) (older contact : List ℤ)
+          → advancedResult r older contact ≡ advance 1 s neck (withStrings v (v .first) (v .second)) F → stepResult t (v .finger) r (v .first) older contact ≡ step s neck (atTurn t) F
+      go zero ready z r older contact e = by-advance s neck (atTurn 0) F ready r older contact e
+      go (suc t) ready z r older contact e = absurd (omega arith)
+
+  -- at any other number the second is
+  pub advanced-second : Ready s neck (stateOf v) → (v .turn ≡ 0 → ⊥) → (r : StepAnswer) (older contact : List ℤ)
+      → advancedResult r older contact ≡ advance 0 s neck (withStrings v (v .second) (v .first)) F → stepResult (v .turn) (v .finger) r older (v .second) contact ≡ step s neck v F
+  unfolding stateOf
+  advanced-second = go (v .turn)
+    where
+      go : (t : ℕ) → Ready s neck (stateOf (atTurn t)) → (t ≡ 0 → ⊥) → (r : StepAnswer) (older contact : List ℤ)
+          → advancedResult r older contact ≡ advance 0 s neck (withStrings v (v .second) (v .first)) F → stepResult t (v .finger) r older (v .second) contact ≡ step s neck (atTurn t) F
+      go zero ready z r older contact e = absurd (z refl)
+      go (suc t) ready z r older contact e = by-advance s neck (atTurn (suc t)) F ready r older contact e
+
+  -- a ready voice, with the strings in the order that its turn selects
+  pub ready-second : Ready s neck (stateOf v) → (v .turn ≡ 0 → ⊥) → Ready s neck (withStrings v (v .second) (v .first))
+  unfolding stateOf
+  ready-second = go (v .turn)
+    where
+      go : (t : ℕ) → Ready s neck (stateOf (atTurn t)) → (t ≡ 0 → ⊥) → Ready s neck (withStrings v (v .second) (v .first))
+      go zero ready z = absurd (z refl)
+      go (suc t) ready z = ready

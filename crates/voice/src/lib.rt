@@ -9,11 +9,17 @@ pub use voice_neck::lay_neck;
 // 01, 'One step': clears strings and contact variables, and gives turn and finger.
 pub use voice_start::fresh_start;
 
+// 01, 'One step': writes the new string over the older buffer and the contact variables, and gives turn, finger and frame.
+pub use voice_step::step;
+
 // What is passed and answered.
 pub use model::Finger;
 pub use model::FingerSetup;
+pub use model::Frame;
 pub use model::NeckAnswer;
 pub use model::Setup;
 pub use model::SetupAnswer;
 pub use model::StartAnswer;
 pub use model::Started;
+pub use model::StepAnswer;
+pub use model::Stepped;

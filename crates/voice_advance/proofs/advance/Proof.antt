@@ -267,8 +267,7 @@ module _ (c : lts.After-write2 Learnt reads.Pre reads.Post) where
 pickup-frame-requires : tie.Need-pickup-frame-requires
 pickup-frame-requires c κs =
     let w = c .before .before in
-    let a = k (w₃ (d w)) in
-    (
+    let a = k (w₃ (d w)) in (
       ready a .setup,
       string-length w,
       subst (λ l. T (all displacementOk l)) (sym (string-written w)) (string-range (passed-13 (d w)) .1),
