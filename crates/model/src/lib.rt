@@ -22,6 +22,7 @@ pub struct Setup {
 }
 
 // 01, 'One step': the finger's newer height w, its older height w' and its contact variable φ.
+#[repr(C)]
 pub struct Finger {
     pub newer: i32,
     pub older: i32,
@@ -29,6 +30,7 @@ pub struct Finger {
 }
 
 // 01, 'Playing a block': a pickup frame, the two new displacements divided by 1,048,576.
+#[repr(C)]
 pub struct Frame {
     pub bridge: f32,
     pub neck: f32,

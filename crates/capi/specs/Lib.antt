@@ -1,0 +1,3 @@
+-- What the contracts of the exported functions cite: the answers of the model's operations in the form that a C caller gets.
+pub mod Setups
+pub mod StepCall

@@ -1,0 +1,109 @@
+// The string voice for C and Rust: operations of `voice` as exported functions, which include/string_voice.h declares. A slice is a pointer and a length.
+ghost use mathlib.Core.Path.{_≡_};
+ghost use Rattle.model.specs.Step as Steps;
+ghost use Rattle.capi.specs.Setups.{setupOf};
+ghost use Rattle.capi.specs.StepCall.{stepCall};
+use kernel_samples::frame;
+use model::Finger;
+use model::FingerSetup;
+use model::Frame;
+use model::Setup;
+use model::StepAnswer;
+use voice_step::step;
+
+// 01, 'Setup', in one row.
+#[repr(C)]
+pub struct SetupRow {
+    pub segments: u32,
+    pub tension: u32,
+    pub stiffness: u32,
+    pub viscous: u32,
+    pub plain: u32,
+    pub finger_stiffness: u16,
+    pub finger_mass: u32,
+    pub finger_place: u32,
+    pub pluck_place: u32,
+    pub bridge_place: u32,
+    pub neck_place: u32,
+}
+
+// What a step answers: the refusal, 0 if there is none, turn, finger and frame. After a refusal turn and finger are those passed in, and the
+// frame is 0.
+#[repr(C)]
+pub struct StepRow {
+    pub refusal: u32,
+    pub turn: u32,
+    pub finger: Finger,
+    pub frame: Frame,
+}
+
+fn setup_of(row: SetupRow) -> Setup
+    ensures { λ r. ⌜ r ≡ setupOf row ⌝ }
+{
+    Setup {
+        segments: row.segments,
+        tension: row.tension,
+        stiffness: row.stiffness,
+        viscous: row.viscous,
+        plain: row.plain,
+        finger: FingerSetup {
+            place: row.finger_place,
+            stiffness: row.finger_stiffness,
+            mass: row.finger_mass,
+        },
+        pluck_place: row.pluck_place,
+        bridge_place: row.bridge_place,
+        neck_place: row.neck_place,
+    }
+}
+
+// `voice::step`.
+#[no_mangle]
+pub extern "C" fn sv_step(
+    setup: SetupRow,
+    heights: &[i32],
+    stiffness: &[u16],
+    first: &mut [i32],
+    second: &mut [i32],
+    contact: &mut [i32],
+    turn: u32,
+    finger: Finger,
+    pluck: i32,
+    finger_force: i32,
+) -> StepRow
+    ensures { λ r. ⌜ record { row = r; first = now (first .exit); second = now (second .exit); contact = now (contact .exit) } ≡ stepCall (Steps.step (setupOf setup)
+        (record { heights = now (heights .entry); stiffness = now (stiffness .entry) })
+        (record { first = now (first .entry); second = now (second .entry); contact = now (contact .entry); turn = turn; finger = finger })
+        (record { pluck = pluck; finger = «finger_force» })) ⌝ }
+{
+    let answer = step(
+        setup_of(setup),
+        heights,
+        stiffness,
+        first,
+        second,
+        contact,
+        turn,
+        finger,
+        pluck,
+        finger_force,
+    );
+    match answer {
+        StepAnswer::Accepted(stepped) => {
+            let moved = stepped.finger;
+            let made = stepped.frame;
+            StepRow {
+                refusal: 0,
+                turn: stepped.turn,
+                finger: moved,
+                frame: made,
+            }
+        }
+        StepAnswer::Refused(number) => StepRow {
+            refusal: number,
+            turn,
+            finger,
+            frame: frame(0, 0),
+        },
+    }
+}
