@@ -1,0 +1,138 @@
+/* The same scheme in plain C, with the same refusals: what a C programmer would write by hand. It is built at two levels of optimisation,
+   under the name PLAIN_STEP, and compared with the product in speed and in every bit. */
+#include "../include/string_voice.h"
+
+#define DISPLACEMENT 1048576
+#define CONTACT 67108864
+#define FORCE 1073741824
+
+static uint16_t roots[1024];
+
+/* Entry q is the greatest whole number whose square is at most 64q. */
+__attribute__((constructor)) static void fill_roots(void)
+{
+    for (int q = 0, r = 0; q < 1024; q++) {
+        while ((r + 1) * (r + 1) <= 64 * q)
+            r++;
+        roots[q] = (uint16_t)r;
+    }
+}
+
+static int outside(int64_t x, int64_t low, int64_t high) { return x < low || x > high; }
+
+static int place_outside(sv_setup s, uint32_t place) { return place < 1 || place >= s.segments; }
+
+static uint32_t setup_refusal(sv_setup s)
+{
+    if (s.segments < 2 || s.segments > 128)
+        return 1;
+    if (s.tension == 0 || s.tension > 4096 || s.stiffness > 4096 || s.viscous > 4096 || s.plain > 4096)
+        return 2;
+    if (s.tension + 4 * s.stiffness + 2 * s.viscous > 4096)
+        return 3;
+    if (place_outside(s, s.finger_place) || place_outside(s, s.pluck_place) || place_outside(s, s.bridge_place) || place_outside(s, s.neck_place))
+        return 4;
+    if (s.finger_mass < 1 || s.finger_mass > 1048576)
+        return 5;
+    return 0;
+}
+
+static int64_t gradient(uint16_t stiffness, int64_t depth)
+{
+    if (depth <= 0)
+        return 0;
+    uint64_t q = (uint64_t)stiffness * (uint64_t)depth / 1024;
+    return roots[q < 1023 ? q : 1023];
+}
+
+static int64_t nearest(int64_t num, int64_t den)
+{
+    int64_t twice = 2 * num + den, unit = 2 * den, quotient = twice / unit;
+    return twice % unit < 0 ? quotient - 1 : quotient;
+}
+
+sv_stepped PLAIN_STEP(sv_setup s, const int32_t *heights, size_t heights_length, const uint16_t *stiffness, size_t stiffness_length,
+                      int32_t *first, size_t first_length, int32_t *second, size_t second_length, int32_t *contact, size_t contact_length,
+                      uint32_t turn, sv_finger finger, int32_t pluck, int32_t finger_force)
+{
+    sv_stepped r = {setup_refusal(s), turn, finger, {0, 0}};
+    if (r.refusal)
+        return r;
+    size_t n = s.segments - 1;
+    if (heights_length != n || stiffness_length != n || first_length != n || second_length != n || contact_length != n) {
+        r.refusal = 6;
+        return r;
+    }
+    for (size_t i = 0; i < n; i++)
+        if (outside(heights[i], -DISPLACEMENT, 0)) {
+            r.refusal = 7;
+            return r;
+        }
+    int bad = outside(finger.newer, -DISPLACEMENT, DISPLACEMENT) || outside(finger.older, -DISPLACEMENT, DISPLACEMENT) || outside(finger.contact, -CONTACT, CONTACT);
+    for (size_t i = 0; i < n && !bad; i++)
+        bad = outside(first[i], -DISPLACEMENT, DISPLACEMENT) || outside(second[i], -DISPLACEMENT, DISPLACEMENT) || outside(contact[i], -CONTACT, CONTACT);
+    if (bad) {
+        r.refusal = 11;
+        return r;
+    }
+    if (outside(pluck, -FORCE, FORCE) || outside(finger_force, -FORCE, FORCE)) {
+        r.refusal = 12;
+        return r;
+    }
+
+    const int32_t *u = turn ? second : first;
+    int32_t *v = turn ? first : second;
+    int64_t string[130], d1[130], change[130], next[127], next_contact[127];
+    string[0] = string[n + 1] = d1[0] = d1[n + 1] = change[0] = change[n + 1] = 0;
+    for (size_t i = 1; i <= n; i++) {
+        string[i] = u[i - 1];
+        change[i] = (int64_t)u[i - 1] - v[i - 1];
+    }
+    for (size_t i = 1; i <= n; i++)
+        d1[i] = string[i - 1] - 2 * string[i] + string[i + 1];
+    int64_t height = 0, finger_contact = 0;
+    for (size_t i = 1; i <= n; i++) {
+        int64_t G = gradient(stiffness[i - 1], heights[i - 1] - string[i]);
+        int64_t A = 4096 + s.plain + G * G;
+        int64_t c = 8192 * change[i] + (int64_t)s.tension * d1[i] - (int64_t)s.stiffness * (d1[i - 1] - 2 * d1[i] + d1[i + 1])
+            + (int64_t)s.viscous * (change[i - 1] - 2 * change[i] + change[i + 1]) + 2 * G * contact[i - 1];
+        int64_t move;
+        if (i == s.pluck_place)
+            c += pluck;
+        if (i == s.finger_place) {
+            int64_t g = gradient(s.finger_stiffness, string[i] - finger.newer), gg = g * g, mass = s.finger_mass, phi = finger.contact;
+            int64_t a11 = A + gg, a22 = mass + gg, b1 = c - 2 * g * phi;
+            int64_t b2 = 2 * mass * ((int64_t)finger.newer - finger.older) + finger_force + 2 * g * phi;
+            int64_t det = a11 * a22 - gg * gg, finger_move = nearest(a11 * b2 + gg * b1, det);
+            move = nearest(b1 * a22 + gg * b2, det);
+            height = finger.older + finger_move;
+            finger_contact = phi + g * (move - finger_move);
+        } else
+            move = nearest(c, A);
+        next[i - 1] = v[i - 1] + move;
+        next_contact[i - 1] = contact[i - 1] - G * move;
+    }
+
+    bad = outside(height, -DISPLACEMENT, DISPLACEMENT);
+    for (size_t i = 0; i < n && !bad; i++)
+        bad = outside(next[i], -DISPLACEMENT, DISPLACEMENT);
+    if (bad) {
+        r.refusal = 13;
+        return r;
+    }
+    bad = outside(finger_contact, -CONTACT, CONTACT);
+    for (size_t i = 0; i < n && !bad; i++)
+        bad = outside(next_contact[i], -CONTACT, CONTACT);
+    if (bad) {
+        r.refusal = 14;
+        return r;
+    }
+    for (size_t i = 0; i < n; i++) {
+        v[i] = (int32_t)next[i];
+        contact[i] = (int32_t)next_contact[i];
+    }
+    r.turn = turn ? 0 : 1;
+    r.finger = (sv_finger){(int32_t)height, finger.newer, (int32_t)finger_contact};
+    r.frame = (sv_frame){(float)v[s.bridge_place - 1] / 1048576.0f, (float)v[s.neck_place - 1] / 1048576.0f};
+    return r;
+}
