@@ -3,7 +3,6 @@ use mathlib.Core.List.{List}
 use Prim.Native.Nat.{ℕ}
 use lib.IntN.{ℤ, pos}
 use Rattle.model.specs.Refusal.{Answer, accepted, refused}
-use Rattle.model.specs.State.{Lent}
 use Rattle.model.specs.Step.{StepResult, frameOf}
 use Rattle.model.specs.declared.Frame.{Frame}
 use Rattle.capi.specs.declared.StepRow.{StepRow}

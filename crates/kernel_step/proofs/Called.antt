@@ -1,10 +1,9 @@
 -- What a call that passes 1 to 12 gives the functions that work it out: lengths, ranges and sizes.
-use mathlib.Core.Path.{_≡_, sym, _∙_}
 use mathlib.Core.List.{[], _∷_}
-use Prim.Native.Nat.{ℕ, _≤_}
+use Prim.Native.Nat.{_≤_}
 use native.Mathlib.Omega.{arith}
 use lib.Dec.{T}
-use lib.ListN.{length, drop}
+use lib.ListN.{drop}
 use mir.Facts.{T-not-not}
 use Rattle.model.specs.Ranges.{all, heightOk, forceOk}
 use Rattle.model.specs.Setup.{points, setupRules}

@@ -1,10 +1,6 @@
 -- `sv_step` meets its contract: the answer of the step, taken apart.
 use mathlib.Core.Path.{_≡_, sym, _∙_, ap, ap₂}
-use mathlib.Core.List.{List}
 use borrow.Author.Needs.{needs}
-use lib.IntN.{ℤ}
-use mir.Syntax.{w32}
-use mir.Val.{toZ, ofZ}
 use mir.Facts.{toZ-ofZ}
 use Rattle.model.specs.Answers.{stepResult}
 use Rattle.model.specs.Ranges.{inside, displacementOk}

@@ -1,7 +1,6 @@
 -- `moves_at_finger` meets its contract: the point at p lies at index p − 1, and its equation enters the finger's system.
 use mathlib.Core.Path.{_≡_, sym, _∙_, ap, ap₂}
 use mathlib.Core.Bool.{cond}
-use mathlib.Core.List.{List}
 use Prim.Native.Nat.{ℕ, suc, _-_}
 use native.Mathlib.Omega.{arith}
 use borrow.Author.Needs.{needs}

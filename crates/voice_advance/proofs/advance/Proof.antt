@@ -1,6 +1,5 @@
 -- `advance` meets its contract: rows 12, 13 and 14 are gone through, and a passed table leads to the next state.
 use mathlib.Core.Path.{_≡_, refl, sym, _∙_, ap, ap₂, subst}
-use mathlib.Core.Bool.{_&&_}
 use mathlib.Core.List.{List, [], _∷_}
 use Prim.Native.Nat.{ℕ, _≤_}
 use native.Mathlib.Omega.{arith}

@@ -1,8 +1,7 @@
 -- `step` meets its contract: the table is gone through row by row; what is ready then advances, with the strings in the order of the turn.
 use mathlib.Core.Path.{_≡_, sym, _∙_, ap, ap₂, subst}
-use mathlib.Core.Bool.{not}
 use mathlib.Core.List.{List, [], _∷_}
-use Prim.Native.Nat.{ℕ, zero, suc}
+use Prim.Native.Nat.{ℕ}
 use native.Mathlib.Omega.{arith}
 use borrow.Author.Needs.{needs}
 use lib.ListN.{length, drop}
@@ -11,13 +10,12 @@ use mir.Val.{toZ, ofZ}
 use mir.Facts.{toZ-ofZ}
 use Rattle.model.specs.Answers.{stepResult}
 use Rattle.model.specs.Ranges.{all, heightOk}
-use Rattle.model.specs.Refusal.{Rule, _when_, firstOf}
+use Rattle.model.specs.Refusal.{Rule, firstOf}
 use Rattle.model.specs.Setup.{lengthOk, setupRules}
-use Rattle.model.specs.State.{State, Lent, byTurn, stateOf, Neck, Forces}
+use Rattle.model.specs.State.{Lent, stateOf, Neck, Forces}
 use Rattle.model.specs.Step as Steps
 use Rattle.model.specs.Step.{StepResult, buffersRule, stateOk, callRules, stepRules}
 use Rattle.model.specs.declared.Setup.{Setup}
-use Rattle.model.specs.declared.StepAnswer.{StepAnswer}
 use Rattle.model.specs.declared.StepAnswer.the-variants.{Refused}
 use Rattle.laws.specs.Accepted.{SetupFacts, setup-passed, setup-accepted, setup-reached, setup-refused}
 use Rattle.laws.specs.Advance.{advance, inOrder, withStrings, same-lengths, same-state, ready-in-order, ready-second, advanced-first, advanced-second}
