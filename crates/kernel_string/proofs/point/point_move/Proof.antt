@@ -1,9 +1,9 @@
 -- `point::point_move` meets its contract: both sides of the division are scaled alike.
-use mathlib.Core.Path.{_∙_}
+use mathlib.Core.Path.{sym, _∙_, ap₂, subst}
 use mathlib.Core.List.{[], _∷_}
 use Prim.Native.Nat.{_^_}
 use lib.IntN.{pos}
-use lib.Signed.{ltZ-yes}
+use lib.Signed.{_<ℤ_, ltZ-yes}
 use mir.Syntax.{w64}
 use mir.Facts.{toZ-ofZ}
 use Rattle.integers.specs.Order.{times-positive}
@@ -32,13 +32,13 @@ Learnt = (nearest-reads.Asked, nearest-reads.Learnt)
 nearest-requires : tie.Need-nearest-requires
 nearest-requires c κs =
     let a = c .before .before in
-    (rw (result (ρ a) w64 factor tt) (times-positive {a = pos 1048576} (ltZ-yes tt) (a .pre .0)), wide (held-within (ρ a) w64 side tt) tt, wide (held-within (ρ a) w64 factor tt) tt)
+    (subst (λ z. pos 0 <ℤ z) (sym (result (ρ a) w64 factor tt)) (times-positive {a = pos 1048576} (ltZ-yes tt) (a .pre .0)), wide (held-within (ρ a) w64 side tt) tt, wide (held-within (ρ a) w64 factor tt) tt)
 
 returns : tie.Need-returns
 returns c =
     let a = c .before .before .before in
     toZ-ofZ (record { sfits = c .nearest .ok })
-    ∙ (rw (result (ρ a) w64 side tt, result (ρ a) w64 factor tt) at (c .nearest .ensures))
+    ∙ c .nearest .ensures ∙ ap₂ nearest (result (ρ a) w64 side tt) (result (ρ a) w64 factor tt)
     ∙ nearest-scaled (pos 1048576) (a .args .equation .side) (ltZ-yes tt) (a .pre .0)
 
 pub point-move-spec : {M : Type 1} → statement M
