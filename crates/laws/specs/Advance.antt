@@ -159,6 +159,14 @@ module _ (s : Setup) (neck : Neck) (v : Lent) (F : Forces) where
       go (suc t) ready z r older contact e = by-advance s neck (atTurn (suc t)) F ready r older contact e
 
   -- a ready voice, with the strings in the order that its turn selects
+  pub ready-first : Ready s neck (stateOf v) → v .turn ≡ 0 → Ready s neck (withStrings v (v .first) (v .second))
+  unfolding stateOf
+  ready-first = go (v .turn)
+    where
+      go : (t : ℕ) → Ready s neck (stateOf (atTurn t)) → t ≡ 0 → Ready s neck (withStrings v (v .first) (v .second))
+      go zero ready z = ready
+      go (suc t) ready z = absurd (omega arith)
+
   pub ready-second : Ready s neck (stateOf v) → (v .turn ≡ 0 → ⊥) → Ready s neck (withStrings v (v .second) (v .first))
   unfolding stateOf
   ready-second = go (v .turn)

@@ -7,10 +7,10 @@ use kernel_ranges::heights_ok;
 use model::Finger;
 use model::Setup;
 use model::StepAnswer;
-use voice_advance::advance;
 use voice_rows::state_ok;
 use voice_setup::buffers::five_lengths_ok;
 use voice_setup::setup_refusal;
+use voice_turn::step_ready;
 
 // Steps the voice: writes the new string over the older of the two string buffers and the contact variables, and answers turn, finger and frame;
 // or answers the number and leaves every buffer. Turn 0 means that the first string is newer, any other number the second.
@@ -52,33 +52,17 @@ pub fn step(
         return StepAnswer::Refused(11);
     }
     let roots = root_table();
-    if turn == 0 {
-        advance(
-            setup,
-            &roots,
-            heights,
-            stiffness,
-            first,
-            second,
-            contact,
-            1,
-            finger,
-            pluck,
-            force,
-        )
-    } else {
-        advance(
-            setup,
-            &roots,
-            heights,
-            stiffness,
-            second,
-            first,
-            contact,
-            0,
-            finger,
-            pluck,
-            force,
-        )
-    }
+    step_ready(
+        setup,
+        &roots,
+        heights,
+        stiffness,
+        first,
+        second,
+        contact,
+        turn,
+        finger,
+        pluck,
+        force,
+    )
 }

@@ -18,7 +18,7 @@ use Rattle.model.specs.Step.{StepResult, buffersRule, stateOk, callRules, stepR
 use Rattle.model.specs.declared.Setup.{Setup}
 use Rattle.model.specs.declared.StepAnswer.the-variants.{Refused}
 use Rattle.laws.specs.Accepted.{SetupFacts, setup-passed, setup-accepted, setup-reached, setup-refused}
-use Rattle.laws.specs.Advance.{advance, inOrder, withStrings, same-lengths, same-state, ready-in-order, ready-second, advanced-first, advanced-second}
+use Rattle.laws.specs.Advance.{inOrder, same-lengths, same-state, ready-in-order}
 use Rattle.laws.specs.Ready.{Ready}
 use Rattle.laws.specs.Refusals.{Reached, row-passed-not, row-holds-not, row-fact, refused-by, not-not}
 use Rattle.voice_step.proofs.step.Statement.{statement}
@@ -27,10 +27,10 @@ use Rattle.voice_step.proofs.step.Reads as reads
 use Rattle.voice_step.proofs.step.Lts as lts
 use Rattle.kernel_contact.proofs.roots.root_table.Reads as root-table-reads
 use Rattle.kernel_ranges.proofs.heights_ok.Reads as heights-ok-reads
-use Rattle.voice_advance.proofs.advance.Reads as advance-reads
 use Rattle.voice_rows.proofs.state_ok.Reads as state-ok-reads
 use Rattle.voice_setup.proofs.buffers.five_lengths_ok.Reads as five-lengths-ok-reads
 use Rattle.voice_setup.proofs.setup_refusal.Reads as setup-refusal-reads
+use Rattle.voice_turn.proofs.step_ready.Reads as step-ready-reads
 
 abbrev Learnt : lts.Claims
 Learnt = (
@@ -44,8 +44,8 @@ Learnt = (
   state-ok-reads.Learnt,
   root-table-reads.Asked,
   root-table-reads.Learnt,
-  advance-reads.Asked,
-  advance-reads.Learnt,
+  step-ready-reads.Asked,
+  step-ready-reads.Learnt,
 )
 
 module _ (k : lts.Start Learnt reads.Pre reads.Post) where
@@ -160,33 +160,15 @@ module _ (c : lts.Else4 Learnt reads.Pre reads.Post) where
   forces-are : _≡_ {A = Forces} (record { pluck = toZ w32 (ofZ w32 (k .args .pluck)); finger = toZ w32 (ofZ w32 (k .args .force)) }) (F k)
   forces-are = ap₂ (λ pluck force. record { pluck = pluck; finger = force }) (toZ-ofZ (k .fits .pluck)) (toZ-ofZ (k .fits .force))
 
-advance-requires : tie.Need-advance-requires
-advance-requires c κs = let t = c .before .before .before .before .before in (t .root-table .ensures, ordered (t .before))
-
-advance-requires-2 : tie.Need-advance-requires-2
-advance-requires-2 c κs =
-    let b = c .before .before .before .before in
-    let t = b .before in
-    let d = k (t .before) in
-    (t .root-table .ensures, ready-second (s d) (neck d) (v d) (F d) (ready (t .before)) (b .if5 .left))
+step-ready-requires : tie.Need-step-ready-requires
+step-ready-requires c κs = let t = c .before .before .before .before in (t .root-table .ensures, ready (t .before))
 
 returns-5 : tie.Need-returns-5
 returns-5 c =
-    let advanced = c .before .before in
-    let branch = advanced .before .before .before .before .before in
-    let d = branch .before .before in
+    let made = c .before .before .before in
+    let d = made .before .before .before .before .before .before in
     let a = k d in
-    advanced-first (s a) (neck a) (v a) (F a) (ready d) (branch .if5 .taken) (advanced .advance .result) _ _
-    (advanced .advance .ensures ∙ ap (advance 1 (s a) (neck a) (withStrings (v a) (v a .first) (v a .second))) (forces-are d))
-
-returns-6 : tie.Need-returns-6
-returns-6 c =
-    let advanced = c .before .before in
-    let branch = advanced .before .before .before .before .before in
-    let d = branch .before .before in
-    let a = k d in
-    advanced-second (s a) (neck a) (v a) (F a) (ready d) (branch .if5 .left) (advanced .advance2 .result) _ _
-    (advanced .advance2 .ensures ∙ ap (advance 0 (s a) (neck a) (withStrings (v a) (v a .second) (v a .first))) (forces-are d))
+    made .step-ready .ensures ∙ ap (Steps.step (s a) (neck a) (v a)) (forces-are d)
 
 pub step-spec : {M : Type 1} → statement M
 step-spec =
@@ -204,13 +186,8 @@ step-spec =
     (λ c. search needs)
     returns-4
     (λ c κs. tt)
-    advance-requires
-    advance-requires-2
+    step-ready-requires
     (λ c. search needs)
     (λ c. search needs)
     (λ c. search needs)
-    returns-5
-    (λ c. search needs)
-    (λ c. search needs)
-    (λ c. search needs)
-    returns-6)
+    returns-5)
