@@ -20,8 +20,8 @@ pub fn next_string(older: &[i32], moves: &[i64; 127], out: &mut [i64; 127])
 {
     for i in 0..older.len() {
         let own = older[i];
-        let change = moves[i];
-        out[i] = (own as i64) + change;
+        let delta = moves[i];
+        out[i] = (own as i64) + delta;
     }
 }
 
@@ -41,8 +41,8 @@ pub fn next_contact(
     for i in 0..contact.len() {
         let own = contact[i];
         let gradient = gradients[i];
-        let change = moves[i];
-        out[i] = (own as i64) - gradient * change;
+        let delta = moves[i];
+        out[i] = (own as i64) - gradient * delta;
     }
 }
 
@@ -58,19 +58,19 @@ pub fn write(numbers: &[i64; 127], out: &mut [i32])
 }
 
 // The finger's new height, w' + δw.
-pub fn next_height(older: i32, change: i64) -> i64
-    requires { ⌜ (change within 2 ^ 44) ⌝ }
-    ensures { λ r. ⌜ r ≡ older +ℤ change ⌝ }
+pub fn next_height(older: i32, delta: i64) -> i64
+    requires { ⌜ (delta within 2 ^ 44) ⌝ }
+    ensures { λ r. ⌜ r ≡ older +ℤ delta ⌝ }
 {
-    (older as i64) + change
+    (older as i64) + delta
 }
 
 // The finger's new contact variable, φ + g·(δ − δw).
-pub fn next_finger_contact(contact: i32, gradient: i64, change: i64, finger_change: i64) -> i64
-    requires { ⌜ (gradient within 255) × (change within 2 ^ 32) × («finger_change» within 2 ^ 44) ⌝ }
-    ensures { λ r. ⌜ r ≡ contact +ℤ gradient *ℤ (change -ℤ «finger_change») ⌝ }
+pub fn next_finger_contact(contact: i32, gradient: i64, delta: i64, finger_delta: i64) -> i64
+    requires { ⌜ (gradient within 255) × (delta within 2 ^ 32) × («finger_delta» within 2 ^ 44) ⌝ }
+    ensures { λ r. ⌜ r ≡ contact +ℤ gradient *ℤ (delta -ℤ «finger_delta») ⌝ }
 {
-    (contact as i64) + gradient * (change - finger_change)
+    (contact as i64) + gradient * (delta - finger_delta)
 }
 
 // The finger after an accepted step: its new height and contact variable, and the newer height, which is now the older one.

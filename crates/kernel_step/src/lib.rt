@@ -54,8 +54,8 @@ pub fn work_out(
     let mut gradients = [0i64; 127];
     point_gradients(roots, heights, stiffness, newer, &mut gradients);
     let gradient = finger_gradient(roots, setup, newer, finger);
-    let mut changes = [0i64; 127];
-    let finger_change = moves(
+    let mut deltas = [0i64; 127];
+    let finger_delta = moves(
         setup,
         newer,
         older,
@@ -65,14 +65,14 @@ pub fn work_out(
         gradient,
         pluck,
         force,
-        &mut changes,
+        &mut deltas,
     );
-    next_string(older, &changes, string);
-    next_contact(contact, &gradients, &changes, contacts);
+    next_string(older, &deltas, string);
+    next_contact(contact, &gradients, &deltas, contacts);
     let place = setup.finger.place as usize;
-    let change = changes[place - 1];
-    let height = next_height(finger.older, finger_change);
-    let contact_variable = next_finger_contact(finger.contact, gradient, change, finger_change);
+    let delta = deltas[place - 1];
+    let height = next_height(finger.older, finger_delta);
+    let contact_variable = next_finger_contact(finger.contact, gradient, delta, finger_delta);
     NewFinger {
         height,
         contact: contact_variable,

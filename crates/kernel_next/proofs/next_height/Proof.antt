@@ -11,7 +11,7 @@ use Rattle.kernel_next.proofs.next_height.Lts as lts
 abbrev body : Code
 body = cast w32 (var 0) ⊞ var 1
 
-ρ : (c : lts.Start reads.Pre reads.Post) → Env (c .args .older ∷ c .args .change ∷ []) (2 ^ 31 ∷ 2 ^ 44 ∷ []) (pred (2 ^ 31) ∷ 2 ^ 44 ∷ [])
+ρ : (c : lts.Start reads.Pre reads.Post) → Env (c .args .older ∷ c .args .delta ∷ []) (2 ^ 31 ∷ 2 ^ 44 ∷ []) (pred (2 ^ 31) ∷ 2 ^ 44 ∷ [])
 ρ c = c .fits .older ▸ c .pre ▹ ∅
 
 returns : tie.Need-returns

@@ -52,7 +52,7 @@ in-array : (c : lts.In-loop reads.Pre reads.Post Inv-loop μ-loop) → c .before
 in-array c = omega (arith, c .loop-test .taken, c .before .before .pre .0)
 
 -- a turn
-module _ (c : lts.After-change reads.Pre reads.Post Inv-loop μ-loop) where
+module _ (c : lts.After-delta reads.Pre reads.Post Inv-loop μ-loop) where
   abbrev turn : lts.In-loop reads.Pre reads.Post Inv-loop μ-loop
   turn = c .before .before
 

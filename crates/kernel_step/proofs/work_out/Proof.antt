@@ -194,8 +194,8 @@ module _ (m : lts.After-moves Learnt reads.Pre reads.Post) where
   point : place - 1 < points (s (k m))
   point = let l = lengths m .setup .last in let f = first-place in omega arith
 
-  change-is : toZ w64 (ofZ w64 (getD (move-array m) (place - 1) (pos 0))) ≡ at (δ (k m) .points) place
-  change-is = ap (λ z. toZ w64 (ofZ w64 z)) (sym (getD-take (points (s (k m))) (move-array m) (place - 1) (pos 0) point) ∙ ap (λ l. getD l (place - 1) (pos 0)) (point-moves-are m) ∙ sym (at-index (δ (k m) .points) place first-place))
+  delta-is : toZ w64 (ofZ w64 (getD (move-array m) (place - 1) (pos 0))) ≡ at (δ (k m) .points) place
+  delta-is = ap (λ z. toZ w64 (ofZ w64 z)) (sym (getD-take (points (s (k m))) (move-array m) (place - 1) (pos 0) point) ∙ ap (λ l. getD l (place - 1) (pos 0)) (point-moves-are m) ∙ sym (at-index (δ (k m) .points) place first-place))
       ∙ toZ-ofZ (fits (moves-size (sizes m) place) tt)
 
 next-height-requires : tie.Need-next-height-requires
@@ -204,7 +204,7 @@ next-height-requires c κs = let m = c .before .before .before .before .before .
 next-finger-contact-requires : tie.Need-next-finger-contact-requires
 next-finger-contact-requires c κs =
     let m = c .before .before .before .before .before .before .before .before .before .before .before .before in
-    (rw (finger-gradient-is (d m)) (sizes m .gradient), rw (change-is m) (moves-size (sizes m) (place m)), rw (finger-move-is m) (finger-move-size m))
+    (rw (finger-gradient-is (d m)) (sizes m .gradient), rw (delta-is m) (moves-size (sizes m) (place m)), rw (finger-move-is m) (finger-move-size m))
 
 -- the next state, part by part
 module _ (c : lts.After-next-finger-contact Learnt reads.Pre reads.Post) where
@@ -240,7 +240,7 @@ module _ (c : lts.After-next-finger-contact Learnt reads.Pre reads.Post) where
 
   finger-contact-is : toZ w64 (ofZ w64 (c .next-finger-contact .result)) ≡ x a .finger .contact +ℤ G a .finger *ℤ (at (δ a .points) (p (s a)) -ℤ δ a .finger)
   finger-contact-is = toZ-ofZ (record { sfits = c .next-finger-contact .ok }) ∙ c .next-finger-contact .ensures
-      ∙ ap₂ (λ φ z. φ +ℤ z) (toZ-ofZ (fits (sizes m .finger) tt)) (ap₂ (λ g z. g *ℤ z) (finger-gradient-is (d m)) (ap₂ (λ y w. y -ℤ w) (change-is m) (finger-move-is m)))
+      ∙ ap₂ (λ φ z. φ +ℤ z) (toZ-ofZ (fits (sizes m .finger) tt)) (ap₂ (λ g z. g *ℤ z) (finger-gradient-is (d m)) (ap₂ (λ y w. y -ℤ w) (delta-is m) (finger-move-is m)))
 
 returns : tie.Need-returns
 unfolding nextState workedStep
