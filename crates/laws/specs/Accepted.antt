@@ -53,7 +53,7 @@ none-above (n ∷ ns) t = let k = or-no (ltb 4096 n) (any (ltb 4096) ns) t in (l
 pub small-coefficients : (s : Setup) → T (not (coefficientWrong s)) → Every (λ n. n ≤ 4096) (L s ∷ M s ∷ S s ∷ Z s ∷ [])
 small-coefficients s t = none-above (L s ∷ M s ∷ S s ∷ Z s ∷ []) (or-no (eqb (L s) 0) (any (ltb 4096) (L s ∷ M s ∷ S s ∷ Z s ∷ [])) t .1)
 
-between-yes : (a n b : ℕ) → T (between a n b) → (a ≤ n) × (n ≤ b)
+pub between-yes : (a n b : ℕ) → T (between a n b) → (a ≤ n) × (n ≤ b)
 unfolding between
 between-yes a n b t = let h = and-yes (leb a n) (leb n b) t in (leb-yes (h .0), leb-yes (h .1))
 

@@ -1,13 +1,16 @@
 -- A block plays: its steps are those of a run, its count theirs and the turn's flips, and it stops early only with 12, 13 or 14.
 use mathlib.Core.Path.{_≡_, refl, _∙_, ap}
+use mathlib.Core.Bool.{not}
 use mathlib.Core.List.{List, [], _∷_, _++_}
-use Prim.Native.Nat.{ℕ, suc, _+_, _*_}
+use Prim.Native.Nat.{ℕ, suc, _+_, _*_, _%_}
+use lib.Dec.{eqb}
 use lib.IntN.{ℤ}
 use lib.Ieee.{Float}
 use native.Mathlib.Omega.{arith}
-use lib.ListN.{drop}
+use lib.ListN.{length, drop}
 use lib.Seq.{drop-drop}
-use Rattle.model.specs.Refusal.{unless, Answer, accepted, refused}
+use mir.Facts.{or-no, T-not-not, eqb-yes}
+use Rattle.model.specs.Refusal.{firstOf, unless, Answer, accepted, refused}
 use Rattle.model.specs.Setup.{setupRules}
 use Rattle.model.specs.State.{Lent, stateOf, Neck, Forces}
 use Rattle.model.specs.Step.{step}
@@ -16,7 +19,7 @@ use Rattle.model.specs.Block.{pairs, stopped, play, blockRules, block}
 use Rattle.model.specs.declared.Setup.{Setup}
 use Rattle.model.specs.declared.Frame.{Frame}
 use Rattle.promises.specs.Promises.{Passed, IsFirst, flips, frameSamples, Plays, Blocks}
-use Rattle.laws.specs.Refusals.{first-of, fails, passed-append}
+use Rattle.laws.specs.Refusals.{passed, first-of, fails, passed-append}
 use Rattle.laws.specs.Accepted.{accepted-step, step-refused, step-turn}
 use Rattle.laws.specs.Ready.{Ready, ready-next, ready-refused}
 
@@ -56,12 +59,21 @@ module _ (s : Setup) (neck : Neck) where
         stops = (q, ready-refused s neck v F h n q);
       }
 
--- a block that passed its own table is ready
-ready : (s : Setup) (neck : Neck) (v : Lent) (forces : List ℤ) (samples : List Float) → Passed (blockRules s neck v forces samples) → Ready s neck (stateOf v)
-unfolding blockRules setupRules
-ready s neck v forces samples h =
-    let rules = blockRules s neck v forces samples in
-    record { setup = passed-append (setupRules s) (drop 5 rules) h .0; buffers = (fails 6 rules h, tt); heights = (fails 7 rules h, tt); state = (fails 11 rules h, tt) }
+-- a block that passed its own table is ready, and has a sample for each force
+module _ (s : Setup) (neck : Neck) (v : Lent) (forces : List ℤ) (samples : List Float) where
+  ready : Passed (blockRules s neck v forces samples) → Ready s neck (stateOf v)
+  unfolding blockRules setupRules
+  ready h =
+      let rules = blockRules s neck v forces samples in
+      record { setup = passed-append (setupRules s) (drop 5 rules) h .0; buffers = (fails 6 rules h, tt); heights = (fails 7 rules h, tt); state = (fails 11 rules h, tt) }
+
+  pub block-ready : firstOf (blockRules s neck v forces samples) ≡ 0 → Ready s neck (stateOf v) × (length samples ≡ length forces)
+  unfolding blockRules setupRules
+  block-ready e =
+      let rules = blockRules s neck v forces samples in
+      let h = passed rules tt e in
+      let same = or-no (eqb (length forces % 2) 1) (not (eqb (length samples) (length forces))) (fails 15 rules h) .1 in
+      (ready h, eqb-yes (T-not-not (eqb (length samples) (length forces)) same))
 
 -- a block by what its table gave
 by-number : (s : Setup) (neck : Neck) (v : Lent) (forces : List ℤ) (samples : List Float) (n : ℕ) → IsFirst (blockRules s neck v forces samples) n

@@ -5,14 +5,10 @@ use mathlib.Core.List.{List, [], _∷_}
 use Prim.Native.Nat.{ℕ, _≤_}
 use native.Mathlib.Omega.{arith}
 use lib.Dec.{T}
-use lib.IntN.{ℤ, pos, negℤ, natAbs, _-ℤ_}
-use lib.Signed.{_<ℤ_, leZ, ltZ, leZ-yes, ltZ-yes}
+use lib.IntN.{ℤ, pos, natAbs, _-ℤ_}
+use lib.Signed.{ltZ, ltZ-yes}
 use lib.Ieee.{Format, binary32, binary64}
 use mir.Facts.{and-yes, T-not-not}
-use Rattle.integers.specs.Solve.{_⊖_, ⊝_, #_}
-use Rattle.integers.specs.Derive.{_≼_, _≺_, _⊢_, times, deduce}
-use Rattle.integers.specs.Order.{≤-pos, pos-≤, natAbs-≤}
-use Rattle.integers.specs.Size.{size-between}
 use Rattle.integers.specs.Floats.{negative, fraction-exact}
 use Rattle.model.specs.Ranges.{inside, all, heightOk, displacementOk}
 use Rattle.model.specs.Refusal.{Rule, accepted}
@@ -30,7 +26,7 @@ use Rattle.model.specs.declared.Reading.the-variants.{Free, Pressed, Refused}
 use Rattle.promises.specs.Promises.{Passed, Refuses, Frames, Shows, shown, Readings}
 use Rattle.laws.specs.Refusals.{fails, at-all, by-table}
 use Rattle.laws.specs.Accepted.{stateMade, step-accepted, accepted-step}
-use Rattle.laws.specs.Sizes.{inside-within}
+use Rattle.laws.specs.Sizes.{inside-within, depth-ok}
 
 pub fraction-holds : (f : Format) (z : ℤ) → natAbs z ≤ 1048576 → Holds (fraction f z) z
 unfolding fraction
@@ -62,12 +58,6 @@ frames s neck v F f q =
 
 -- ---- a reading
 
--- a depth above 0, between a height of the neck and a displacement
-depth-≤ : (h u : ℤ) → T (heightOk h) → natAbs u ≤ 1048576 → pos 0 <ℤ (h -ℤ u) → natAbs (h -ℤ u) ≤ 1048576
-unfolding heightOk inside
-depth-≤ h u b r d = ≤-pos (size-between (deduce 2 (λ h u. times 1 (# 0 ≺ h ⊖ u) ∷ [] ⊢ ⊝ # 1048576 ≼ h ⊖ u) tt h u d)
-    (deduce 3 (λ h u n. times 1 (h ≼ # 0) ∷ times 1 (⊝ n ≼ u) ∷ times 1 (n ≼ # 1048576) ∷ [] ⊢ h ⊖ u ≼ # 1048576) tt h u (pos (natAbs u)) (leZ-yes (and-yes (leZ (negℤ (pos 1048576)) h) (leZ h (pos 0)) b .1)) (natAbs-≤ u) (pos-≤ r)))
-
 module _ (s : Setup) (heights first second : List ℤ) (turn i : ℕ) where
   string : List ℤ
   string = newest turn first second
@@ -89,20 +79,20 @@ module _ (s : Setup) (heights first second : List ℤ) (turn i : ℕ) where
   numbers b = cond b (u ∷ d ∷ []) (u ∷ [])
 
   shows : Passed rules → (b : Bool) → ltZ (pos 0) d ≡ b → Refuses rules (readingResult (value b)) × Shows (numbers b) (readingResult (value b))
-  unfolding string u d rules value readingRules setupRules heightOk inside
+  unfolding string u d rules value readingRules setupRules displacementOk heightOk inside
   shows h b q = go b q
     where
-      range : natAbs u ≤ 1048576
-      range = string-≤ string (T-not-not (all displacementOk string) (fails 11 rules h)) i
+      range : T (displacementOk u)
+      range = at-all displacementOk string tt (T-not-not (all displacementOk string) (fails 11 rules h)) i
 
       height : T (heightOk (at heights i))
       height = at-all heightOk heights tt (T-not-not (all heightOk heights) (fails 7 rules h)) i
 
       held : Holds (fraction binary64 u) u
-      held = fraction-holds binary64 u range
+      held = fraction-holds binary64 u (inside-within 1048576 u range .size)
 
       go : (b : Bool) → ltZ (pos 0) d ≡ b → Refuses rules (readingResult (value b)) × Shows (numbers b) (readingResult (value b))
-      go true q = (h, (held, (fraction-holds binary64 d (depth-≤ (at heights i) u height range (ltZ-yes (rw q tt))), tt)))
+      go true q = (h, (held, (fraction-holds binary64 d (inside-within 1048576 d (depth-ok (at heights i) u height range (ltZ-yes (rw q tt))) .size), tt)))
       go false q = (h, (held, tt))
 
   holds : let answer = readingResult (reading s heights first second turn i) in Refuses rules answer × Shows (shown u d) answer

@@ -17,6 +17,7 @@ pub mod MoveSizes
 pub mod Ready
 pub mod Advance
 pub mod Block
+pub mod Playing
 pub mod Exact
 pub mod Demands
 mod Witness

@@ -5,14 +5,16 @@ use mathlib.Core.List.{List, [], _∷_, zipWith}
 use Prim.Native.Nat.{ℕ, zero, suc, _+_, _*_, _^_, zero-le}
 use lib.Dec.{T, eqb, ltb, ltb→lt, nltb→le}
 use lib.IntN.{ℤ, pos, negℤ, _-ℤ_}
-use lib.Signed.{leZ, leZ-yes}
+use lib.Signed.{_≤ℤ_, _<ℤ_, leZ, leZ-yes}
 use lib.ListN.{length, List·getD-eq-default}
-use mir.Facts.{and-yes, eqb-yes}
+use mir.Facts.{and-yes, yes-and, eqb-yes}
 use Rattle.integers.specs.Filled.{length-tabulate, getD-tabulate}
-use Rattle.integers.specs.Order.{natAbs-between}
+use Rattle.integers.specs.Derive.{_≼_, _≺_, _⊢_, times, deduce}
+use Rattle.integers.specs.Order.{≤-trans, nonneg, natAbs-between}
+use Rattle.integers.specs.Solve.{_⊖_, ⊝_, #_}
 use Rattle.integers.specs.Sum.{bend}
 use Rattle.integers.specs.Size.{_within_, _⟨+⟩_, _⟨-⟩_, _⟨*⟩_, num, natural, weaken, wide, size}
-use Rattle.model.specs.Ranges.{all, inside, between, displacementOk, contactOk, forceOk}
+use Rattle.model.specs.Ranges.{all, inside, between, displacementOk, contactOk, forceOk, heightOk}
 use Rattle.model.specs.Setup.{K, p, e, points, lengthOk, setupRules}
 use Rattle.model.specs.Differences.{at, minus, D1}
 use Rattle.model.specs.Gradient.{gradient}
@@ -91,6 +93,26 @@ module _ {s : Setup} {x : State} {G : PointsAndFinger} {F : Forces} (b : StepRan
 pub inside-within : (n : ℕ) (x : ℤ) → T (inside (negℤ (pos n)) x (pos n)) → x within n
 unfolding inside
 inside-within n x t = let k = and-yes (leZ (negℤ (pos n)) x) (leZ x (pos n)) t in record { size = natAbs-between (leZ-yes (k .0)) (leZ-yes (k .1)) }
+
+pub within-inside : (n : ℕ) {x : ℤ} → negℤ (pos n) ≤ℤ x → x ≤ℤ pos n → T (inside (negℤ (pos n)) x (pos n))
+unfolding inside
+within-inside n {x} h k = yes-and (leZ (negℤ (pos n)) x) (leZ x (pos n)) (h .le) (k .le)
+
+-- a height of the neck
+pub height-between : (h : ℤ) → T (heightOk h) → (negℤ (pos 1048576) ≤ℤ h) × (h ≤ℤ pos 0)
+unfolding heightOk inside
+height-between h t = let k = and-yes (leZ (negℤ (pos 1048576)) h) (leZ h (pos 0)) t in (leZ-yes (k .0), leZ-yes (k .1))
+
+pub height-within : (h : ℤ) → T (heightOk h) → h within 1048576
+height-within h t = let k = height-between h t in record { size = natAbs-between {a = h} (k .0) (≤-trans (k .1) (nonneg 1048576)) }
+
+-- a depth above 0, from a displacement to a height of the neck, is in the range of displacements
+pub depth-ok : (h u : ℤ) → T (heightOk h) → T (displacementOk u) → pos 0 <ℤ (h -ℤ u) → T (displacementOk (h -ℤ u))
+unfolding displacementOk inside
+depth-ok h u height displacement above =
+    within-inside 1048576
+    (deduce 2 (λ h u. times 1 (# 0 ≺ h ⊖ u) ∷ [] ⊢ ⊝ # 1048576 ≼ h ⊖ u) tt h u above)
+    (deduce 2 (λ h u. times 1 (h ≼ # 0) ∷ times 1 (⊝ # 1048576 ≼ u) ∷ [] ⊢ h ⊖ u ≼ # 1048576) tt h u (height-between h height .1) (leZ-yes (and-yes (leZ (negℤ (pos 1048576)) u) (leZ u (pos 1048576)) displacement .0)))
 
 pub bounded : (n : ℕ) (u : List ℤ) → T (all (λ x. inside (negℤ (pos n)) x (pos n)) u) → Bounded u n
 bounded n u t zero = weaken (num 0) zero-le

@@ -1,5 +1,5 @@
 -- 01, 'Playing a block', and a block's refusals.
-use mathlib.Core.Bool.{_||_, not}
+use mathlib.Core.Bool.{Bool, _||_, not}
 use mathlib.Core.List.{List, [], _∷_, _++_}
 use Prim.Native.Nat.{ℕ, suc, _%_}
 use lib.Dec.{eqb}
@@ -12,12 +12,17 @@ use Rattle.model.specs.State.{Lent, stateOf, Neck, Forces}
 use Rattle.model.specs.Neck.{heightsRule}
 use Rattle.model.specs.Step.{buffersRule, stateRule, step}
 use Rattle.model.specs.declared.Setup.{Setup}
+use Rattle.model.specs.declared.Frame.{Frame}
 
 -- the forces of each step: pluck and finger in turn
 abbrev pub pairs : List ℤ → List Forces
 pairs [] = []
 pairs (f ∷ []) = []
 pairs (f ∷ g ∷ fs) = record { pluck = f; finger = g } ∷ pairs fs
+
+-- 15: an odd number of forces, or another number of samples than of forces
+abbrev pub countsWrong : (forces samples : ℕ) → Bool
+countsWrong forces samples = eqb (forces % 2) 1 || not (eqb samples forces)
 
 -- the number of steps made, the refusal that stopped them (0 if none did), and what the lent buffers, turn, finger and samples then are
 pub record BlockResult : Type 0 where
@@ -30,14 +35,18 @@ pub record BlockResult : Type 0 where
 abbrev pub stopped : Lent → List Float → ℕ → BlockResult
 stopped v samples n = record { count = 0; refusal = n; lent = v; samples = samples }
 
+-- a step is made, and then the rest of the block: its frame comes first, bridge before neck
+abbrev pub stepMade : Frame → BlockResult → BlockResult
+stepMade f b = record { count = suc (b .count); refusal = b .refusal; lent = b .lent; samples = f .bridge ∷ f .neck ∷ b .samples }
+
 module _ (s : Setup) (neck : Neck) where
-  -- steps until the forces end or one is refused; each frame is written in turn, bridge first
+  -- steps until the forces end or one is refused; each frame is written in turn
   unfoldable pub play : Lent → List Forces → List Float → BlockResult
   play v [] samples = stopped v samples 0
   play v (F ∷ Fs) samples =
       let r = step s neck v F in
       elim (r .answer) [
-        | accepted f ↦ (let b = play (r .lent) Fs (drop 2 samples) in record { count = suc (b .count); refusal = b .refusal; lent = b .lent; samples = f .bridge ∷ f .neck ∷ b .samples })
+        | accepted f ↦ stepMade f (play (r .lent) Fs (drop 2 samples))
         | refused n ↦ stopped (r .lent) samples n
       ]
 
@@ -45,7 +54,7 @@ module _ (s : Setup) (neck : Neck) where
     unfoldable pub blockRules : List Rule
     blockRules = setupRules s
         ++ buffersRule s neck (stateOf v)
-        ∷ 15 when (eqb (length forces % 2) 1 || not (eqb (length samples) (length forces)))
+        ∷ 15 when countsWrong (length forces) (length samples)
         ∷ heightsRule (neck .heights)
         ∷ stateRule (stateOf v)
         ∷ []

@@ -12,11 +12,22 @@ pub use voice_start::fresh_start;
 // 01, 'One step': writes the new string over the older buffer and the contact variables, and gives turn, finger and frame.
 pub use voice_step::step;
 
+// 01, 'Playing a block, reading a place': makes steps until the forces end or one is refused, and writes their pickup frames.
+pub use voice_block::play_block;
+
+// 01, 'One step': the newest string, as that one of the two lent buffers.
+pub use voice_newest::newest;
+
+// 01, 'Playing a block, reading a place': the newest displacement at a place and, where the string is pressed, its depth.
+pub use voice_reading::read_place;
+
 // What is passed and answered.
+pub use model::BlockAnswer;
 pub use model::Finger;
 pub use model::FingerSetup;
 pub use model::Frame;
 pub use model::NeckAnswer;
+pub use model::Reading;
 pub use model::Setup;
 pub use model::SetupAnswer;
 pub use model::StartAnswer;

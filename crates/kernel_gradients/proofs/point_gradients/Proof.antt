@@ -4,21 +4,17 @@ use mathlib.Core.List.{List, [], _∷_, zipWith}
 use Prim.Native.Nat.{ℕ, zero, suc, _-_, _<_}
 use native.Mathlib.Nat.{le-of-suc-le-suc, not-suc-le-zero}
 use native.Mathlib.Omega.{arith}
-use lib.Dec.{T}
-use lib.IntN.{ℤ, pos, negℤ, _-ℤ_}
+use lib.IntN.{ℤ, pos, _-ℤ_}
 use lib.ListN.{length, getD}
-use lib.Signed.{leZ, leZ-yes}
 use mir.Syntax.{w32}
-use mir.Facts.{toZ-ofZ, and-yes}
-use Rattle.integers.specs.Order.{≤-trans, nonneg, natAbs-between}
-use Rattle.integers.specs.Size.{_within_}
+use mir.Facts.{toZ-ofZ}
 use Rattle.integers.specs.Machine.{Code, var, _⊟_, Within, ∅, _▹_, fits, result}
 use Rattle.integers.specs.Filled.{Filled, filled-none, filled-more, filled-first}
 use Rattle.model.specs.Differences.{at, minus}
 use Rattle.model.specs.Gradient.{gradient}
-use Rattle.model.specs.Ranges.{heightOk, inside, displacementOk}
+use Rattle.model.specs.Ranges.{heightOk, displacementOk}
 use Rattle.laws.specs.Refusals.{all-entry}
-use Rattle.laws.specs.Sizes.{bounded}
+use Rattle.laws.specs.Sizes.{bounded, height-within}
 use Rattle.laws.specs.Strings.{_spans_, length-zip, at-minus, spans-minus, by-places}
 use Rattle.kernel_gradients.proofs.point_gradients.Statement.{statement}
 use Rattle.kernel_gradients.proofs.point_gradients.Tie as tie
@@ -48,12 +44,6 @@ entry-gradient [] ds i h l = absurd (not-suc-le-zero h)
 entry-gradient (k ∷ ks) [] i h l = absurd (not-suc-le-zero l)
 entry-gradient (k ∷ ks) (d ∷ ds) zero h l = refl
 entry-gradient (k ∷ ks) (d ∷ ds) (suc i) h l = entry-gradient ks ds i (le-of-suc-le-suc h) (le-of-suc-le-suc l)
-
-height-within : (x : ℤ) → T (heightOk x) → x within 1048576
-unfolding heightOk inside
-height-within x t =
-    let k = and-yes (leZ (negℤ (pos 1048576)) x) (leZ x (pos 0)) t in
-    record { size = natAbs-between {a = x} (leZ-yes (k .0)) (≤-trans (leZ-yes (k .1)) (nonneg 1048576)) }
 
 -- the neck and the string
 module _ (c : lts.Start Learnt reads.Pre reads.Post Inv-loop μ-loop) where

@@ -1,0 +1,2 @@
+-- Laws of the newest of two.
+pub mod Newest

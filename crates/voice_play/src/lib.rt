@@ -1,0 +1,88 @@
+// 01, 'Playing a block': the steps of a block whose arguments are examined, and the writing of their frames.
+ghost use mathlib.Core.Path.{_≡_};
+ghost use Prim.Native.Nat.{_+_, _≤_};
+ghost use lib.ListN.{length};
+ghost use Rattle.kernel_contact.specs.Table.{rootTable};
+ghost use Rattle.laws.specs.Playing.{withFrame};
+ghost use Rattle.laws.specs.Ready.{Ready};
+ghost use Rattle.model.specs.Answers.{blockResult};
+ghost use Rattle.model.specs.Block as Blocks;
+ghost use Rattle.model.specs.Block.{pairs};
+ghost use Rattle.model.specs.State.{stateOf};
+use model::BlockAnswer;
+use model::Finger;
+use model::Frame;
+use model::Setup;
+use model::StepAnswer;
+use voice_turn::step_ready;
+
+// Writes a frame over two samples, bridge first.
+fn write_frame(frame: Frame, samples: &mut [f32], at: usize)
+    requires { ⌜ at + 2 ≤ length (now samples) ⌝ }
+    ensures { λ r. ⌜ now (samples .exit) ≡ withFrame frame at (now (samples .entry)) ⌝ }
+{
+    samples[at] = frame.bridge;
+    samples[at + 1] = frame.neck;
+}
+
+// Steps a voice that is ready, until the forces end or a step is refused.
+pub fn play(
+    setup: Setup,
+    roots: &[u16; 1024],
+    heights: &[i32],
+    stiffness: &[u16],
+    first: &mut [i32],
+    second: &mut [i32],
+    contact: &mut [i32],
+    mut turn: u32,
+    mut finger: Finger,
+    forces: &[i32],
+    samples: &mut [f32],
+) -> BlockAnswer
+    requires { ⌜ (now roots ≡ rootTable) × Ready setup (record { heights = now heights; stiffness = now stiffness })
+        (stateOf (record { first = now first; second = now second; contact = now contact; turn = turn; finger = finger }))
+        × (length (now samples) ≡ length (now forces)) ⌝ }
+    ensures { λ r. ⌜ blockResult r (now (first .exit)) (now (second .exit)) (now (contact .exit)) (now (samples .exit)) ≡ Blocks.play setup
+        (record { heights = now (heights .entry); stiffness = now (stiffness .entry) })
+        (record { first = now (first .entry); second = now (second .entry); contact = now (contact .entry); turn = turn; finger = finger })
+        (pairs (now (forces .entry))) (now (samples .entry)) ⌝ }
+{
+    let steps = forces.len() / 2;
+    for count in 0..steps {
+        let at = 2 * count;
+        let answer = step_ready(
+            setup,
+            roots,
+            heights,
+            stiffness,
+            first,
+            second,
+            contact,
+            turn,
+            finger,
+            forces[at],
+            forces[at + 1],
+        );
+        match answer {
+            StepAnswer::Accepted(stepped) => {
+                turn = stepped.turn;
+                finger = stepped.finger;
+                write_frame(stepped.frame, samples, at);
+            }
+            StepAnswer::Refused(number) => {
+                return BlockAnswer {
+                    count,
+                    refusal: number,
+                    turn,
+                    finger,
+                };
+            }
+        }
+    }
+    BlockAnswer {
+        count: steps,
+        refusal: 0,
+        turn,
+        finger,
+    }
+}

@@ -1,0 +1,60 @@
+// 01, 'Playing a block, reading a place': the newest displacement at a place and, where the string is pressed there, its depth.
+ghost use mathlib.Core.Path.{_≡_};
+ghost use lib.Dec.{T};
+ghost use Rattle.model.specs.Ranges.{displacementOk, heightOk};
+ghost use Rattle.model.specs.Reading.{readingOf, reading};
+use kernel_ranges::displacements_ok;
+use kernel_ranges::heights_ok;
+use kernel_ranges::place_ok;
+use kernel_samples::double;
+use model::Reading;
+use model::Setup;
+use voice_newest::newest;
+use voice_setup::buffers::three_lengths_ok;
+use voice_setup::setup_refusal;
+
+// What a displacement u over a neck of this height shows: pressed where the depth, height − u, is above 0.
+fn shown(u: i32, height: i32) -> Reading
+    requires { ⌜ T (displacementOk u) × T (heightOk height) ⌝ }
+    ensures { λ r. ⌜ r ≡ readingOf u height ⌝ }
+{
+    let displacement = double(u);
+    let depth = height - u;
+    if depth > 0 {
+        Reading::Pressed(displacement, double(depth))
+    } else {
+        Reading::Free(displacement)
+    }
+}
+
+// Reads a place, or answers the number. Both strings are measured, and only the newest is examined.
+pub fn read_place<'a>(
+    setup: Setup,
+    heights: &[i32],
+    first: &'a [i32],
+    second: &'a [i32],
+    turn: u32,
+    place: u32,
+) -> Reading
+    ensures { λ r. ⌜ r ≡ reading setup (now (heights .entry)) (now (first .entry)) (now (second .entry)) turn place ⌝ }
+{
+    let refusal = setup_refusal(setup);
+    if refusal != 0 {
+        return Reading::Refused(refusal);
+    }
+    if !place_ok(setup, place) {
+        return Reading::Refused(4);
+    }
+    if !three_lengths_ok(setup, heights.len(), first.len(), second.len()) {
+        return Reading::Refused(6);
+    }
+    if !heights_ok(heights) {
+        return Reading::Refused(7);
+    }
+    let string = newest(first, second, turn);
+    if !displacements_ok(string) {
+        return Reading::Refused(11);
+    }
+    let index = place as usize - 1;
+    shown(string[index], heights[index])
+}
