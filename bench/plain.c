@@ -1,5 +1,5 @@
 /* The same scheme in plain C, with the same refusals: what a C programmer would write by hand. It is built at two levels of optimisation,
-   under the name PLAIN_STEP, and compared with the product in speed and in every bit. */
+   under the names PLAIN_STEP and PLAIN_BLOCK, and compared with the product in speed and in every bit. */
 #include "../include/string_voice.h"
 
 #define DISPLACEMENT 1048576
@@ -51,30 +51,28 @@ static int64_t nearest(int64_t num, int64_t den)
     return twice % unit < 0 ? quotient - 1 : quotient;
 }
 
-sv_stepped PLAIN_STEP(sv_setup s, const int32_t *heights, size_t heights_length, const uint16_t *stiffness, size_t stiffness_length,
-                      int32_t *first, size_t first_length, int32_t *second, size_t second_length, int32_t *contact, size_t contact_length,
-                      uint32_t turn, sv_finger finger, int32_t pluck, int32_t finger_force)
+static int lengths_wrong(size_t n, size_t a, size_t b, size_t c, size_t d, size_t e) { return a != n || b != n || c != n || d != n || e != n; }
+
+/* 7 and 11 */
+static uint32_t state_refusal(size_t n, const int32_t *heights, const int32_t *first, const int32_t *second, const int32_t *contact, sv_finger finger)
 {
-    sv_stepped r = {setup_refusal(s), turn, finger, {0, 0}};
-    if (r.refusal)
-        return r;
-    size_t n = s.segments - 1;
-    if (heights_length != n || stiffness_length != n || first_length != n || second_length != n || contact_length != n) {
-        r.refusal = 6;
-        return r;
-    }
     for (size_t i = 0; i < n; i++)
-        if (outside(heights[i], -DISPLACEMENT, 0)) {
-            r.refusal = 7;
-            return r;
-        }
-    int bad = outside(finger.newer, -DISPLACEMENT, DISPLACEMENT) || outside(finger.older, -DISPLACEMENT, DISPLACEMENT) || outside(finger.contact, -CONTACT, CONTACT);
-    for (size_t i = 0; i < n && !bad; i++)
-        bad = outside(first[i], -DISPLACEMENT, DISPLACEMENT) || outside(second[i], -DISPLACEMENT, DISPLACEMENT) || outside(contact[i], -CONTACT, CONTACT);
-    if (bad) {
-        r.refusal = 11;
-        return r;
-    }
+        if (outside(heights[i], -DISPLACEMENT, 0))
+            return 7;
+    if (outside(finger.newer, -DISPLACEMENT, DISPLACEMENT) || outside(finger.older, -DISPLACEMENT, DISPLACEMENT) || outside(finger.contact, -CONTACT, CONTACT))
+        return 11;
+    for (size_t i = 0; i < n; i++)
+        if (outside(first[i], -DISPLACEMENT, DISPLACEMENT) || outside(second[i], -DISPLACEMENT, DISPLACEMENT) || outside(contact[i], -CONTACT, CONTACT))
+            return 11;
+    return 0;
+}
+
+/* A step whose setup, buffers, neck and state are examined: 12, 13 and 14 are left. */
+static sv_stepped advance(sv_setup s, const int32_t *heights, const uint16_t *stiffness, int32_t *first, int32_t *second, int32_t *contact,
+                          uint32_t turn, sv_finger finger, int32_t pluck, int32_t finger_force)
+{
+    sv_stepped r = {0, turn, finger, {0, 0}};
+    size_t n = s.segments - 1;
     if (outside(pluck, -FORCE, FORCE) || outside(finger_force, -FORCE, FORCE)) {
         r.refusal = 12;
         return r;
@@ -113,7 +111,7 @@ sv_stepped PLAIN_STEP(sv_setup s, const int32_t *heights, size_t heights_length,
         next_contact[i - 1] = contact[i - 1] - G * move;
     }
 
-    bad = outside(height, -DISPLACEMENT, DISPLACEMENT);
+    int bad = outside(height, -DISPLACEMENT, DISPLACEMENT);
     for (size_t i = 0; i < n && !bad; i++)
         bad = outside(next[i], -DISPLACEMENT, DISPLACEMENT);
     if (bad) {
@@ -135,4 +133,44 @@ sv_stepped PLAIN_STEP(sv_setup s, const int32_t *heights, size_t heights_length,
     r.finger = (sv_finger){(int32_t)height, finger.newer, (int32_t)finger_contact};
     r.frame = (sv_frame){(float)v[s.bridge_place - 1] / 1048576.0f, (float)v[s.neck_place - 1] / 1048576.0f};
     return r;
+}
+
+sv_stepped PLAIN_STEP(sv_setup s, const int32_t *heights, size_t heights_length, const uint16_t *stiffness, size_t stiffness_length,
+                      int32_t *first, size_t first_length, int32_t *second, size_t second_length, int32_t *contact, size_t contact_length,
+                      uint32_t turn, sv_finger finger, int32_t pluck, int32_t finger_force)
+{
+    sv_stepped r = {setup_refusal(s), turn, finger, {0, 0}};
+    if (r.refusal == 0 && lengths_wrong(s.segments - 1, heights_length, stiffness_length, first_length, second_length, contact_length))
+        r.refusal = 6;
+    if (r.refusal == 0)
+        r.refusal = state_refusal(s.segments - 1, heights, first, second, contact, finger);
+    if (r.refusal)
+        return r;
+    return advance(s, heights, stiffness, first, second, contact, turn, finger, pluck, finger_force);
+}
+
+sv_played PLAIN_BLOCK(sv_setup s, const int32_t *heights, size_t heights_length, const uint16_t *stiffness, size_t stiffness_length,
+                      int32_t *first, size_t first_length, int32_t *second, size_t second_length, int32_t *contact, size_t contact_length,
+                      uint32_t turn, sv_finger finger, const int32_t *forces, size_t forces_length, float *samples, size_t samples_length)
+{
+    sv_played b = {0, setup_refusal(s), turn, finger};
+    if (b.refusal == 0 && lengths_wrong(s.segments - 1, heights_length, stiffness_length, first_length, second_length, contact_length))
+        b.refusal = 6;
+    if (b.refusal == 0 && (forces_length % 2 == 1 || samples_length != forces_length))
+        b.refusal = 15;
+    if (b.refusal == 0)
+        b.refusal = state_refusal(s.segments - 1, heights, first, second, contact, finger);
+    while (b.refusal == 0 && b.count < forces_length / 2) {
+        size_t at = 2 * b.count;
+        sv_stepped r = advance(s, heights, stiffness, first, second, contact, b.turn, b.finger, forces[at], forces[at + 1]);
+        b.refusal = r.refusal;
+        if (r.refusal == 0) {
+            b.turn = r.turn;
+            b.finger = r.finger;
+            samples[at] = r.frame.bridge;
+            samples[at + 1] = r.frame.neck;
+            b.count++;
+        }
+    }
+    return b;
 }

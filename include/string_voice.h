@@ -54,6 +54,26 @@ sv_stepped sv_step(sv_setup setup,
                    int32_t *contact, size_t contact_length,
                    uint32_t turn, sv_finger finger, int32_t pluck, int32_t finger_force);
 
+/* What a block answers: the number of steps made, the refusal that stopped it, 0 if none did, and turn and finger after those steps. */
+typedef struct {
+    size_t count;
+    uint32_t refusal, turn;
+    sv_finger finger;
+} sv_played;
+
+/* A block of n steps: 2n forces, pluck and finger in turn, and 2n samples. Steps are made until the forces end or one is refused (12, 13 or 14); each
+   accepted step writes its frame, bridge first. The samples of a refused step and all later ones are untouched. A refusal of the block
+   itself (1 to 5, 6, 15, 7 or 11) leaves every buffer as it was, with count 0. */
+sv_played sv_play_block(sv_setup setup,
+                        const int32_t *heights, size_t heights_length,
+                        const uint16_t *stiffness, size_t stiffness_length,
+                        int32_t *first, size_t first_length,
+                        int32_t *second, size_t second_length,
+                        int32_t *contact, size_t contact_length,
+                        uint32_t turn, sv_finger finger,
+                        const int32_t *forces, size_t forces_length,
+                        float *samples, size_t samples_length);
+
 #ifdef __cplusplus
 }
 #endif

@@ -5,7 +5,7 @@ use lib.IntN.{ℤ, pos}
 use Rattle.model.specs.Refusal.{Answer, accepted, refused}
 use Rattle.model.specs.Step.{StepResult, frameOf}
 use Rattle.model.specs.declared.Frame.{Frame}
-use Rattle.capi.specs.declared.StepRow.{StepRow}
+use Rattle.capi.specs.declared.step.StepRow.{StepRow}
 
 -- the row, and the three lent buffers after the call
 pub record StepCall : Type 0 where

@@ -72,6 +72,7 @@ pub enum StepAnswer {
 }
 
 // The number of steps that a block made, the refusal that stopped it (0 if none did), and the turn and finger after it.
+#[repr(C)]
 pub struct BlockAnswer {
     pub count: usize,
     pub refusal: u32,
