@@ -1,5 +1,5 @@
 -- A step of a voice that is ready: rows 1 to 5, 6, 7 and 11 are passed, so that 12, 13 and 14 are left, and the turn has selected newer and older string.
-use mathlib.Core.Path.{_≡_, refl, sym, _∙_, ap, subst}
+use mathlib.Core.Path.{_≡_, refl, sym, _∙_, ap}
 use mathlib.Core.Bool.{Bool, true, false, not, _&&_, and-comm}
 use mathlib.Core.List.{List, [], _∷_}
 use Prim.Native.Nat.{ℕ, zero, suc}
@@ -16,7 +16,6 @@ use Rattle.model.specs.declared.Setup.{Setup}
 use Rattle.model.specs.declared.Stepped.{Stepped}
 use Rattle.model.specs.declared.StepAnswer.{StepAnswer}
 use Rattle.model.specs.declared.StepAnswer.the-variants.{Accepted, Refused}
-use Rattle.promises.specs.Promises.{Passed}
 use Rattle.laws.specs.Refusals.{all-parts}
 use Rattle.laws.specs.Ready.{Ready, rows-left}
 
@@ -120,15 +119,6 @@ pub same-state : (v : Lent) → stateOk (inOrder v) ≡ stateOk (stateOf v)
 same-state v = either-order v stateOk (λ a b.
     ap (λ strings. (displacementOk (v .finger .newer) && (displacementOk (v .finger .older) && strings)) && all contactOk (v .finger .contact ∷ v .contact))
     (all-parts displacementOk a b ∙ and-comm (all displacementOk a) (all displacementOk b) ∙ sym (all-parts displacementOk b a)))
-
--- so a voice that is ready with the strings in that order is ready
-pub ready-in-order : {s : Setup} {neck : Neck} (v : Lent) → Ready s neck (inOrder v) → Ready s neck (stateOf v)
-ready-in-order {s} {neck} v r = record {
-  setup = r .setup;
-  buffers = subst (λ rule. Passed (rule ∷ [])) (same-lengths s neck v) (r .buffers);
-  heights = r .heights;
-  state = subst (λ ok. Passed (11 when not ok ∷ [])) (same-state v) (r .state);
-}
 
 -- ---- the two orders in which a step is given the strings
 

@@ -15,6 +15,7 @@ pub mod Solved
 pub mod Sizes
 pub mod MoveSizes
 pub mod Ready
+pub mod Call
 pub mod Advance
 pub mod Block
 pub mod Playing

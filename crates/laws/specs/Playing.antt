@@ -14,13 +14,13 @@ use Rattle.model.specs.Step.{StepResult, step}
 use Rattle.model.specs.Block.{pairs, BlockResult, stopped, stepMade, play}
 use Rattle.model.specs.Answers.{stepResult, blockResult}
 use Rattle.model.specs.declared.Setup.{Setup}
-use Rattle.model.specs.declared.Finger.{Finger}
 use Rattle.model.specs.declared.Frame.{Frame}
 use Rattle.model.specs.declared.Stepped.{Stepped}
 use Rattle.model.specs.declared.StepAnswer.{StepAnswer}
 use Rattle.model.specs.declared.StepAnswer.the-variants.{Accepted, Refused}
 use Rattle.laws.specs.Accepted.{accepted-step}
 use Rattle.laws.specs.Ready.{Ready, ready-next}
+use Rattle.laws.specs.Call.{lentWith}
 
 -- the samples with a frame written from place i on, bridge first
 abbrev pub withFrame : Frame → ℕ → List Float → List Float
@@ -87,10 +87,6 @@ frame-stored f i samples h =
     ap (λ (k : ℕ). set (set samples i (f .bridge)) k (f .neck)) one ∙ stored-twice samples i (f .bridge) (f .neck) (omega arith) ∙ ap (λ (k : ℕ). take i samples ++ f .bridge ∷ f .neck ∷ drop k samples) two
 
 -- ---- one step more
-
--- what a step leaves, of the three buffers, turn and finger
-abbrev pub lentWith : ℕ → Finger → (first second contact : List ℤ) → Lent
-lentWith turn finger first second contact = record { first = first; second = second; contact = contact; turn = turn; finger = finger }
 
 module _ (s : Setup) (neck : Neck) where
   -- a block goes on by what its next step came to

@@ -5,14 +5,12 @@ ghost use Rattle.model.specs.Answers.{blockResult};
 ghost use Rattle.model.specs.Block.{countsWrong, blockRules, block};
 ghost use Rattle.model.specs.Refusal.{firstOf};
 use kernel_contact::roots::root_table;
-use kernel_ranges::heights_ok;
 use model::BlockAnswer;
 use model::Finger;
 use model::Setup;
+use voice_arguments::buffers_refusal;
+use voice_arguments::state_refusal;
 use voice_play::play;
-use voice_rows::state_ok;
-use voice_setup::buffers::five_lengths_ok;
-use voice_setup::setup_refusal;
 
 // 15: an odd number of forces, or another number of samples than of forces.
 fn counts_wrong(forces: usize, samples: usize) -> bool
@@ -37,30 +35,14 @@ fn block_refusal(
         (record { first = now (first .entry); second = now (second .entry); contact = now (contact .entry); turn = turn; finger = finger })
         (now (forces .entry)) (now (samples .entry)))) ⌝ }
 {
-    let refusal = setup_refusal(setup);
+    let refusal = buffers_refusal(setup, heights, stiffness, first, second, contact);
     if refusal != 0 {
         return refusal;
-    }
-    if !five_lengths_ok(
-        setup,
-        heights.len(),
-        stiffness.len(),
-        first.len(),
-        second.len(),
-        contact.len(),
-    ) {
-        return 6;
     }
     if counts_wrong(forces.len(), samples.len()) {
         return 15;
     }
-    if !heights_ok(heights) {
-        return 7;
-    }
-    if !state_ok(first, second, contact, finger) {
-        return 11;
-    }
-    0
+    state_refusal(heights, first, second, contact, finger)
 }
 
 // Plays a block: makes steps until the forces, pluck and finger in turn, end or a step is refused, and writes each accepted step's frame, bridge

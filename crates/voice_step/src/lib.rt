@@ -3,13 +3,11 @@ ghost use mathlib.Core.Path.{_≡_};
 ghost use Rattle.model.specs.Answers.{stepResult};
 ghost use Rattle.model.specs.Step as Steps;
 use kernel_contact::roots::root_table;
-use kernel_ranges::heights_ok;
 use model::Finger;
 use model::Setup;
 use model::StepAnswer;
-use voice_rows::state_ok;
-use voice_setup::buffers::five_lengths_ok;
-use voice_setup::setup_refusal;
+use voice_arguments::buffers_refusal;
+use voice_arguments::state_refusal;
 use voice_turn::step_ready;
 
 // Steps the voice: writes the new string over the older of the two string buffers and the contact variables, and answers turn, finger and frame;
@@ -31,25 +29,13 @@ pub fn step(
         (record { first = now (first .entry); second = now (second .entry); contact = now (contact .entry); turn = turn; finger = finger })
         (record { pluck = pluck; finger = force }) ⌝ }
 {
-    let refusal = setup_refusal(setup);
+    let refusal = buffers_refusal(setup, heights, stiffness, first, second, contact);
     if refusal != 0 {
         return StepAnswer::Refused(refusal);
     }
-    if !five_lengths_ok(
-        setup,
-        heights.len(),
-        stiffness.len(),
-        first.len(),
-        second.len(),
-        contact.len(),
-    ) {
-        return StepAnswer::Refused(6);
-    }
-    if !heights_ok(heights) {
-        return StepAnswer::Refused(7);
-    }
-    if !state_ok(first, second, contact, finger) {
-        return StepAnswer::Refused(11);
+    let refusal = state_refusal(heights, first, second, contact, finger);
+    if refusal != 0 {
+        return StepAnswer::Refused(refusal);
     }
     let roots = root_table();
     step_ready(

@@ -1,40 +1,31 @@
--- `block_refusal` meets its contract: the table is gone through row by row.
-use mathlib.Core.Path.{sym, _∙_, subst}
-use mathlib.Core.List.{List, _∷_}
+-- `block_refusal` meets its contract: the rows 1 to 5 and 6, then 15, then 7 and 11.
+use mathlib.Core.Path.{_≡_, sym, _∙_}
+use mathlib.Core.List.{List}
 use Prim.Native.Nat.{ℕ}
 use lib.ListN.{drop}
 use Rattle.model.specs.Block.{blockRules}
-use Rattle.model.specs.Refusal.{Rule}
+use Rattle.model.specs.Refusal.{Rule, firstOf}
 use Rattle.model.specs.Setup.{setupRules}
-use Rattle.model.specs.State.{Lent, Neck}
-use Rattle.model.specs.Step.{buffersRule}
+use Rattle.model.specs.State.{Lent, stateOf, Neck}
 use Rattle.model.specs.declared.Setup.{Setup}
-use Rattle.laws.specs.Accepted.{SetupFacts, setup-accepted, setup-reached, setup-refused}
-use Rattle.laws.specs.Advance.{inOrder, same-lengths, same-state}
-use Rattle.laws.specs.Playing.{lentWith}
-use Rattle.laws.specs.Refusals.{Reached, row-passed, row-holds, row-passed-not, row-holds-not}
+use Rattle.laws.specs.Call.{lentWith, bufferRows, buffers-refused, buffers-reached}
+use Rattle.laws.specs.Refusals.{Reached, row-passed, row-holds}
 use Rattle.voice_block.proofs.block_refusal.Statement.{statement}
 use Rattle.voice_block.proofs.block_refusal.Tie as tie
 use Rattle.voice_block.proofs.block_refusal.Reads as reads
 use Rattle.voice_block.proofs.block_refusal.Lts as lts
-use Rattle.kernel_ranges.proofs.heights_ok.Reads as heights-ok-reads
+use Rattle.voice_arguments.proofs.buffers_refusal.Reads as buffers-refusal-reads
+use Rattle.voice_arguments.proofs.state_refusal.Reads as state-refusal-reads
 use Rattle.voice_block.proofs.counts_wrong.Reads as counts-wrong-reads
-use Rattle.voice_rows.proofs.state_ok.Reads as state-ok-reads
-use Rattle.voice_setup.proofs.buffers.five_lengths_ok.Reads as five-lengths-ok-reads
-use Rattle.voice_setup.proofs.setup_refusal.Reads as setup-refusal-reads
 
 abbrev Learnt : lts.Claims
 Learnt = (
-  setup-refusal-reads.Asked,
-  setup-refusal-reads.Learnt,
-  five-lengths-ok-reads.Asked,
-  five-lengths-ok-reads.Learnt,
+  buffers-refusal-reads.Asked,
+  buffers-refusal-reads.Learnt,
   counts-wrong-reads.Asked,
   counts-wrong-reads.Learnt,
-  heights-ok-reads.Asked,
-  heights-ok-reads.Learnt,
-  state-ok-reads.Asked,
-  state-ok-reads.Learnt,
+  state-refusal-reads.Asked,
+  state-refusal-reads.Learnt,
 )
 
 module _ (k : lts.Start Learnt reads.Pre reads.Post) where
@@ -51,82 +42,36 @@ module _ (k : lts.Start Learnt reads.Pre reads.Post) where
     abbrev rules : List Rule
     rules = blockRules s neck v (k .args .forces .now) (k .args .samples .now)
 
-    -- the rows below the n-th
-    abbrev After : ℕ → Type 0
-    After n = Reached rules (drop n rules)
+module _ (c : lts.After-buffers-refusal Learnt reads.Pre reads.Post) where
+  abbrev k : lts.Start Learnt reads.Pre reads.Post
+  k = c .before .before .before
 
-abbrev call : lts.After-setup-refusal Learnt reads.Pre reads.Post → lts.Start Learnt reads.Pre reads.Post
-call c = c .before .before .before
+  judged : (turn : ℕ) → c .buffers-refusal .result ≡ firstOf (bufferRows (s k) (neck k) (stateOf (v k turn)))
+  judged turn = c .buffers-refusal .ensures turn (k .args .finger)
 
 returns : tie.Need-returns
 unfolding blockRules setupRules
 returns c turn =
-    let k = call (c .before) in
-    let n = c .before .setup-refusal .result in
-    sym (setup-refused (s k) n (c .before .setup-refusal .ensures) (drop 5 (rules k turn)) (c .if1 .taken))
+    let d = c .before in
+    sym (buffers-refused (s (k d)) (neck (k d)) (stateOf (v (k d) turn)) (d .buffers-refusal .result) (judged d turn) (c .if1 .taken) (drop 6 (rules (k d) turn)))
 
 module _ (c : lts.Else1 Learnt reads.Pre reads.Post) where
-  abbrev call-1 : lts.Start Learnt reads.Pre reads.Post
-  call-1 = call (c .before)
+  abbrev call : lts.Start Learnt reads.Pre reads.Post
+  call = k (c .before)
 
-  facts : SetupFacts (s call-1)
-  facts = setup-accepted (s call-1) (c .before .setup-refusal .result) (c .before .setup-refusal .ensures) (c .if1 .left)
-
-  module _ (turn : ℕ) where
-    after-5 : After call-1 turn 5
-    unfolding blockRules setupRules
-    after-5 = setup-reached (s call-1) (c .before .setup-refusal .result) (c .before .setup-refusal .ensures) _ (c .if1 .left)
-
-    -- row 6, with the strings in the order in which they are lent
-    at-6 : Reached (rules call-1 turn) (buffersRule (s call-1) (neck call-1) (inOrder (v call-1 turn)) ∷ drop 6 (rules call-1 turn))
-    unfolding blockRules setupRules
-    at-6 = subst (λ rule. Reached (rules call-1 turn) (rule ∷ drop 6 (rules call-1 turn))) (sym (same-lengths (s call-1) (neck call-1) (v call-1 turn))) after-5
+  after-6 : (turn : ℕ) → Reached (rules call turn) (drop 6 (rules call turn))
+  unfolding blockRules setupRules
+  after-6 turn = buffers-reached (s call) (neck call) (stateOf (v call turn)) (sym (judged (c .before) turn) ∙ c .if1 .left) (drop 6 (rules call turn))
 
 returns-2 : tie.Need-returns-2
-returns-2 c turn = sym (row-holds-not (at-6 (c .before .before) turn) (c .before .five-lengths-ok .ensures) (c .if2 .taken))
-
-module _ (c : lts.Else2 Learnt reads.Pre reads.Post) where
-  abbrev call-2 : lts.Start Learnt reads.Pre reads.Post
-  call-2 = call-1 (c .before .before)
-
-  after-6 : (turn : ℕ) → After call-2 turn 6
-  after-6 turn = row-passed-not (at-6 (c .before .before) turn) (c .before .five-lengths-ok .ensures) (c .if2 .left)
+unfolding blockRules setupRules
+returns-2 c turn = sym (row-holds (after-6 (c .before .before) turn) (c .before .counts-wrong .ensures) (c .if2 .taken))
 
 returns-3 : tie.Need-returns-3
 unfolding blockRules setupRules
-returns-3 c turn = sym (row-holds (after-6 (c .before .before) turn) (c .before .counts-wrong .ensures) (c .if3 .taken))
-
-module _ (c : lts.Else3 Learnt reads.Pre reads.Post) where
-  abbrev call-3 : lts.Start Learnt reads.Pre reads.Post
-  call-3 = call-2 (c .before .before)
-
-  after-15 : (turn : ℕ) → After call-3 turn 7
-  unfolding blockRules setupRules
-  after-15 turn = row-passed (after-6 (c .before .before) turn) (c .before .counts-wrong .ensures) (c .if3 .left)
-
-returns-4 : tie.Need-returns-4
-unfolding blockRules setupRules
-returns-4 c turn = sym (row-holds-not (after-15 (c .before .before) turn) (c .before .heights-ok .ensures) (c .if4 .taken))
-
-module _ (c : lts.Else4 Learnt reads.Pre reads.Post) where
-  abbrev call-4 : lts.Start Learnt reads.Pre reads.Post
-  call-4 = call-3 (c .before .before)
-
-  after-7 : (turn : ℕ) → After call-4 turn 8
-  unfolding blockRules setupRules
-  after-7 turn = row-passed-not (after-15 (c .before .before) turn) (c .before .heights-ok .ensures) (c .if4 .left)
-
-returns-5 : tie.Need-returns-5
-unfolding blockRules setupRules
-returns-5 c turn =
-    let d = c .before .before in
-    sym (row-holds-not (after-7 d turn) (c .before .state-ok .ensures ∙ same-state (v (call-4 d) turn)) (c .if5 .taken))
-
-returns-6 : tie.Need-returns-6
-unfolding blockRules setupRules
-returns-6 c turn =
-    let d = c .before .before in
-    sym (row-passed-not (after-7 d turn) (c .before .state-ok .ensures ∙ same-state (v (call-4 d) turn)) (c .if5 .left) .number)
+returns-3 c turn =
+    let passed-15 = c .before in
+    c .state-refusal .ensures turn ∙ sym (row-passed (after-6 (passed-15 .before .before) turn) (passed-15 .before .counts-wrong .ensures) (passed-15 .if2 .left) .number)
 
 pub block-refusal-spec : {M : Type 1} → statement M
 block-refusal-spec =
@@ -134,12 +79,7 @@ block-refusal-spec =
     (tie.spec
     (λ c κs. tt)
     returns
-    (λ c κs. facts c .segments-low)
+    (λ c κs. tt)
     returns-2
     (λ c κs. tt)
-    returns-3
-    (λ c κs. tt)
-    returns-4
-    (λ c κs. tt)
-    returns-5
-    returns-6)
+    returns-3)

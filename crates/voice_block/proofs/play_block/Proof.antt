@@ -9,7 +9,7 @@ use Rattle.model.specs.Refusal.{Rule, firstOf}
 use Rattle.model.specs.State.{Lent, Neck}
 use Rattle.model.specs.declared.Setup.{Setup}
 use Rattle.laws.specs.Block.{block-ready}
-use Rattle.laws.specs.Playing.{lentWith}
+use Rattle.laws.specs.Call.{lentWith}
 use Rattle.laws.specs.Refusals.{made-by, refused-by}
 use Rattle.voice_block.proofs.play_block.Statement.{statement}
 use Rattle.voice_block.proofs.play_block.Tie as tie

@@ -13,7 +13,8 @@ use Rattle.model.specs.Block.{pairs}
 use Rattle.model.specs.State.{Lent, stateOf, Neck}
 use Rattle.model.specs.Step.{step}
 use Rattle.model.specs.declared.Setup.{Setup}
-use Rattle.laws.specs.Playing.{lentWith, resumed, begun, ended, frame-length, OneMore, refused-next, ready-again, made-next}
+use Rattle.laws.specs.Call.{lentWith}
+use Rattle.laws.specs.Playing.{resumed, begun, ended, frame-length, OneMore, refused-next, ready-again, made-next}
 use Rattle.laws.specs.Ready.{Ready}
 use Rattle.voice_play.proofs.play.Statement.{statement}
 use Rattle.voice_play.proofs.play.Tie as tie

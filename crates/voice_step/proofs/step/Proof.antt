@@ -1,47 +1,38 @@
--- `step` meets its contract: the table is gone through row by row; what is ready then advances, with the strings in the order of the turn.
-use mathlib.Core.Path.{_≡_, sym, _∙_, ap, ap₂, subst}
-use mathlib.Core.List.{List, [], _∷_}
+-- `step` meets its contract: what passed the rows 1 to 5, 6, 7 and 11 is ready, and advances.
+use mathlib.Core.Path.{_≡_, sym, _∙_, ap, ap₂}
+use mathlib.Core.List.{List}
 use Prim.Native.Nat.{ℕ}
-use native.Mathlib.Omega.{arith}
 use borrow.Author.Needs.{needs}
-use lib.ListN.{length, drop}
+use lib.ListN.{drop}
 use mir.Syntax.{w32}
 use mir.Val.{toZ, ofZ}
 use mir.Facts.{toZ-ofZ}
 use Rattle.model.specs.Answers.{stepResult}
-use Rattle.model.specs.Ranges.{all, heightOk}
 use Rattle.model.specs.Refusal.{Rule, firstOf}
-use Rattle.model.specs.Setup.{lengthOk, setupRules}
+use Rattle.model.specs.Setup.{setupRules}
 use Rattle.model.specs.State.{Lent, stateOf, Neck, Forces}
 use Rattle.model.specs.Step as Steps
-use Rattle.model.specs.Step.{StepResult, buffersRule, stateOk, callRules, stepRules}
+use Rattle.model.specs.Step.{callRules, stepRules}
 use Rattle.model.specs.declared.Setup.{Setup}
 use Rattle.model.specs.declared.StepAnswer.the-variants.{Refused}
-use Rattle.laws.specs.Accepted.{SetupFacts, setup-passed, setup-accepted, setup-reached, setup-refused}
-use Rattle.laws.specs.Advance.{inOrder, same-lengths, same-state, ready-in-order}
+use Rattle.laws.specs.Call.{lentWith, bufferRows, stateRows, buffers-refused, buffers-reached, call-ready}
 use Rattle.laws.specs.Ready.{Ready}
-use Rattle.laws.specs.Refusals.{Reached, row-passed-not, row-holds-not, row-fact, refused-by, not-not}
+use Rattle.laws.specs.Refusals.{front-number, refused-by}
 use Rattle.voice_step.proofs.step.Statement.{statement}
 use Rattle.voice_step.proofs.step.Tie as tie
 use Rattle.voice_step.proofs.step.Reads as reads
 use Rattle.voice_step.proofs.step.Lts as lts
 use Rattle.kernel_contact.proofs.roots.root_table.Reads as root-table-reads
-use Rattle.kernel_ranges.proofs.heights_ok.Reads as heights-ok-reads
-use Rattle.voice_rows.proofs.state_ok.Reads as state-ok-reads
-use Rattle.voice_setup.proofs.buffers.five_lengths_ok.Reads as five-lengths-ok-reads
-use Rattle.voice_setup.proofs.setup_refusal.Reads as setup-refusal-reads
+use Rattle.voice_arguments.proofs.buffers_refusal.Reads as buffers-refusal-reads
+use Rattle.voice_arguments.proofs.state_refusal.Reads as state-refusal-reads
 use Rattle.voice_turn.proofs.step_ready.Reads as step-ready-reads
 
 abbrev Learnt : lts.Claims
 Learnt = (
-  setup-refusal-reads.Asked,
-  setup-refusal-reads.Learnt,
-  five-lengths-ok-reads.Asked,
-  five-lengths-ok-reads.Learnt,
-  heights-ok-reads.Asked,
-  heights-ok-reads.Learnt,
-  state-ok-reads.Asked,
-  state-ok-reads.Learnt,
+  buffers-refusal-reads.Asked,
+  buffers-refusal-reads.Learnt,
+  state-refusal-reads.Asked,
+  state-refusal-reads.Learnt,
   root-table-reads.Asked,
   root-table-reads.Learnt,
   step-ready-reads.Asked,
@@ -56,7 +47,7 @@ module _ (k : lts.Start Learnt reads.Pre reads.Post) where
   neck = record { heights = k .args .heights .now; stiffness = k .args .stiffness .now }
 
   abbrev v : Lent
-  v = record { first = k .args .first .now; second = k .args .second .now; contact = k .args .contact .now; turn = k .args .turn; finger = k .args .finger }
+  v = lentWith (k .args .turn) (k .args .finger) (k .args .first .now) (k .args .second .now) (k .args .contact .now)
 
   abbrev F : Forces
   F = record { pluck = k .args .pluck; finger = k .args .force }
@@ -64,130 +55,83 @@ module _ (k : lts.Start Learnt reads.Pre reads.Post) where
   abbrev rules : List Rule
   rules = stepRules s neck (stateOf v) F
 
-  -- the rows below the n-th
-  abbrev After : ℕ → Type 0
-  After n = Reached rules (drop n rules)
-
-  abbrev result : StepResult
-  result = Steps.step s neck v F
-
-  turned-down : (n : ℕ) → firstOf rules ≡ n → (n ≡ 0 → ⊥) → stepResult (v .turn) (v .finger) (Refused n) (v .first) (v .second) (v .contact) ≡ result
+  turned-down : (n : ℕ) → firstOf rules ≡ n → (n ≡ 0 → ⊥) → stepResult (v .turn) (v .finger) (Refused n) (v .first) (v .second) (v .contact) ≡ Steps.step s neck v F
   unfolding Steps.step
   turned-down n e h = refused-by rules _ _ n e h
 
-abbrev call : lts.After-setup-refusal Learnt reads.Pre reads.Post → lts.Start Learnt reads.Pre reads.Post
-call c = c .before .before
+  -- the forces as they are read
+  forces-are : _≡_ {A = Forces} (record { pluck = toZ w32 (ofZ w32 (k .args .pluck)); finger = toZ w32 (ofZ w32 (k .args .force)) }) F
+  forces-are = ap₂ (λ pluck force. record { pluck = pluck; finger = force }) (toZ-ofZ (k .fits .pluck)) (toZ-ofZ (k .fits .force))
+
+-- setup and buffers are judged
+module _ (c : lts.After-buffers-refusal Learnt reads.Pre reads.Post) where
+  abbrev k : lts.Start Learnt reads.Pre reads.Post
+  k = c .before .before .before .before .before
+
+  buffers-judged : c .buffers-refusal .result ≡ firstOf (bufferRows (s k) (neck k) (stateOf (v k)))
+  buffers-judged = c .buffers-refusal .ensures (k .args .turn) (k .args .finger)
 
 returns : tie.Need-returns
 unfolding stepRules callRules setupRules
 returns c =
-    let k = call (c .before) in
-    let n = c .before .setup-refusal .result in
-    turned-down k n (setup-refused (s k) n (c .before .setup-refusal .ensures) (drop 5 (rules k)) (c .if1 .taken)) (c .if1 .taken)
+    let d = c .before in
+    let n = d .buffers-refusal .result in
+    turned-down (k d) n (buffers-refused (s (k d)) (neck (k d)) (stateOf (v (k d))) n (buffers-judged d) (c .if1 .taken) (drop 6 (rules (k d)))) (c .if1 .taken)
 
-module _ (c : lts.Else1 Learnt reads.Pre reads.Post) where
-  abbrev call-1 : lts.Start Learnt reads.Pre reads.Post
-  call-1 = call (c .before)
+-- and then neck and state
+module _ (c : lts.After-state-refusal Learnt reads.Pre reads.Post) where
+  abbrev passed-6 : lts.Else1 Learnt reads.Pre reads.Post
+  passed-6 = c .before .before .before .before
 
-  facts : SetupFacts (s call-1)
-  facts = setup-accepted (s call-1) (c .before .setup-refusal .result) (c .before .setup-refusal .ensures) (c .if1 .left)
+  abbrev call : lts.Start Learnt reads.Pre reads.Post
+  call = k (passed-6 .before)
 
-  after-5 : After call-1 5
-  unfolding stepRules callRules setupRules
-  after-5 = setup-reached (s call-1) (c .before .setup-refusal .result) (c .before .setup-refusal .ensures) _ (c .if1 .left)
+  no-number : firstOf (bufferRows (s call) (neck call) (stateOf (v call))) ≡ 0
+  no-number = sym (buffers-judged (passed-6 .before)) ∙ passed-6 .if1 .left
 
-  -- row 6, with the strings in the order in which they are lent
-  at-6 : Reached (rules call-1) (buffersRule (s call-1) (neck call-1) (inOrder (v call-1)) ∷ drop 6 (rules call-1))
-  unfolding stepRules callRules setupRules
-  at-6 = subst (λ rule. Reached (rules call-1) (rule ∷ drop 6 (rules call-1))) (sym (same-lengths (s call-1) (neck call-1) (v call-1))) after-5
+  state-judged : c .state-refusal .result ≡ firstOf (stateRows (neck call .heights) (stateOf (v call)))
+  state-judged = c .state-refusal .ensures (call .args .turn)
 
 returns-2 : tie.Need-returns-2
-returns-2 c = turned-down (call-1 (c .before .before)) 6 (row-holds-not (at-6 (c .before .before)) (c .before .five-lengths-ok .ensures) (c .if2 .taken)) (λ z. omega arith)
-
-module _ (c : lts.Else2 Learnt reads.Pre reads.Post) where
-  abbrev call-2 : lts.Start Learnt reads.Pre reads.Post
-  call-2 = call-1 (c .before .before)
-
-  after-6 : After call-2 6
-  after-6 = row-passed-not (at-6 (c .before .before)) (c .before .five-lengths-ok .ensures) (c .if2 .left)
-
-returns-3 : tie.Need-returns-3
 unfolding stepRules callRules setupRules
-returns-3 c = turned-down (call-2 (c .before .before)) 7 (row-holds-not (after-6 (c .before .before)) (c .before .heights-ok .ensures) (c .if3 .taken)) (λ z. omega arith)
-
-module _ (c : lts.Else3 Learnt reads.Pre reads.Post) where
-  abbrev call-3 : lts.Start Learnt reads.Pre reads.Post
-  call-3 = call-2 (c .before .before)
-
-  after-7 : After call-3 7
-  unfolding stepRules callRules setupRules
-  after-7 = row-passed-not (after-6 (c .before .before)) (c .before .heights-ok .ensures) (c .if3 .left)
-
-abbrev at-11 : lts.After-state-ok Learnt reads.Pre reads.Post → lts.Else3 Learnt reads.Pre reads.Post
-at-11 c = c .before .before .before .before
-
-returns-4 : tie.Need-returns-4
-unfolding stepRules callRules setupRules
-returns-4 c =
+returns-2 c =
     let d = c .before in
-    let k = call-3 (at-11 d) in
-    turned-down k 11 (row-holds-not (after-7 (at-11 d)) (d .state-ok .ensures ∙ same-state (v k)) (c .if4 .taken)) (λ z. omega arith)
+    let a = call d in
+    let n = d .state-refusal .result in
+    let reached = buffers-reached (s a) (neck a) (stateOf (v a)) (no-number d) (drop 6 (rules a)) in
+    turned-down a n (reached .number ∙ front-number (stateRows (neck a .heights) (stateOf (v a))) (drop 8 (rules a)) n (state-judged d) (c .if2 .taken)) (c .if2 .taken)
 
--- 1 to 5, 6, 7 and 11 are passed
-module _ (c : lts.Else4 Learnt reads.Pre reads.Post) where
-  abbrev passed-7 : lts.Else3 Learnt reads.Pre reads.Post
-  passed-7 = at-11 (c .before)
-
-  abbrev k : lts.Start Learnt reads.Pre reads.Post
-  k = call-3 passed-7
-
-  ordered : Ready (s k) (neck k) (inOrder (v k))
-  ordered =
-      let passed-6 = passed-7 .before .before in
-      let passed-5 = passed-6 .before .before in
-      let lengths = length (neck k .heights) ∷ length (neck k .stiffness) ∷ length (v k .first) ∷ length (v k .second) ∷ length (v k .contact) ∷ [] in
-      record {
-        setup = setup-passed (s k) (passed-5 .before .setup-refusal .result) (passed-5 .before .setup-refusal .ensures) (passed-5 .if1 .left);
-        buffers = (not-not (all (lengthOk (s k)) lengths) (row-fact (passed-6 .before .five-lengths-ok .ensures) (passed-6 .if2 .left)), tt);
-        heights = (not-not (all heightOk (neck k .heights)) (row-fact (passed-7 .before .heights-ok .ensures) (passed-7 .if3 .left)), tt);
-        state = (not-not (stateOk (inOrder (v k))) (row-fact (c .before .state-ok .ensures) (c .if4 .left)), tt);
-      }
-
-  ready : Ready (s k) (neck k) (stateOf (v k))
-  ready = ready-in-order (v k) ordered
-
-  -- the forces as they are read
-  forces-are : _≡_ {A = Forces} (record { pluck = toZ w32 (ofZ w32 (k .args .pluck)); finger = toZ w32 (ofZ w32 (k .args .force)) }) (F k)
-  forces-are = ap₂ (λ pluck force. record { pluck = pluck; finger = force }) (toZ-ofZ (k .fits .pluck)) (toZ-ofZ (k .fits .force))
+ready : (c : lts.Else2 Learnt reads.Pre reads.Post) → let a = call (c .before) in Ready (s a) (neck a) (stateOf (v a))
+ready c =
+    let d = c .before in
+    call-ready (s (call d)) (neck (call d)) (stateOf (v (call d))) (no-number d) (sym (state-judged d) ∙ c .if2 .left)
 
 step-ready-requires : tie.Need-step-ready-requires
 step-ready-requires c κs = let t = c .before .before .before .before in (t .root-table .ensures, ready (t .before))
 
-returns-5 : tie.Need-returns-5
-returns-5 c =
+returns-3 : tie.Need-returns-3
+returns-3 c =
     let made = c .before .before .before in
-    let d = made .before .before .before .before .before .before in
-    let a = k d in
-    made .step-ready .ensures ∙ ap (Steps.step (s a) (neck a) (v a)) (forces-are d)
+    let a = call (made .before .before .before .before .before .before .before) in
+    made .step-ready .ensures ∙ ap (Steps.step (s a) (neck a) (v a)) (forces-are a)
 
 pub step-spec : {M : Type 1} → statement M
 step-spec =
     tie.close
     (tie.spec
     (λ c κs. tt)
+    (λ c. search needs)
+    (λ c. search needs)
+    (λ c. search needs)
     returns
-    (λ c κs. facts c .segments-low)
+    (λ c κs. tt)
+    (λ c. search needs)
+    (λ c. search needs)
+    (λ c. search needs)
     returns-2
-    (λ c κs. tt)
-    returns-3
-    (λ c κs. tt)
-    (λ c. search needs)
-    (λ c. search needs)
-    (λ c. search needs)
-    returns-4
     (λ c κs. tt)
     step-ready-requires
     (λ c. search needs)
     (λ c. search needs)
     (λ c. search needs)
-    returns-5)
+    returns-3)

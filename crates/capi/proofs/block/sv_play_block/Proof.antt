@@ -2,7 +2,7 @@
 use mathlib.Core.Path.{_∙_, ap}
 use borrow.Author.Needs.{needs}
 use Rattle.model.specs.Block.{block}
-use Rattle.laws.specs.Playing.{lentWith}
+use Rattle.laws.specs.Call.{lentWith}
 use Rattle.capi.proofs.block.sv_play_block.Statement.{statement}
 use Rattle.capi.proofs.block.sv_play_block.Tie as tie
 
