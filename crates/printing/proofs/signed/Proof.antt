@@ -6,8 +6,8 @@ use mir.Syntax.{w32, w64}
 use Rattle.integers.specs.Solve.{_⊖_, #_}
 use Rattle.integers.specs.Derive.{_≼_, _≺_, _⊢_, times, deduce}
 use Rattle.integers.specs.Machine.{var, lit, cast, _⊟_, ∅, _▸_, fits, index, if-lt, else-lt}
-use Rattle.cases.proofs.print.signed.Statement.{statement}
-use Rattle.cases.proofs.print.signed.Tie as tie
+use Rattle.printing.proofs.signed.Statement.{statement}
+use Rattle.printing.proofs.signed.Tie as tie
 
 cast-wide : tie.Need-cast-wide
 cast-wide c = fits (c .fits .x ▸ ∅) w64 (cast w32 (var 0)) tt

@@ -2,8 +2,8 @@
 use Prim.Native.Nat.{_-_}
 use native.Mathlib.Omega.{arith}
 use lib.ListN.{length}
-use Rattle.cases.proofs.print.unsigned_list.Statement.{statement}
-use Rattle.cases.proofs.print.unsigned_list.Tie as tie
+use Rattle.printing.proofs.signed_list.Statement.{statement}
+use Rattle.printing.proofs.signed_list.Tie as tie
 
 abbrev Inv-loop : tie.InvT-loop
 Inv-loop numbers i₀ i-end i = Unit {0}
@@ -11,8 +11,8 @@ Inv-loop numbers i₀ i-end i = Unit {0}
 abbrev μ-loop : tie.MeasureT-loop
 μ-loop numbers i₀ i-end i = length numbers - i
 
-pub unsigned-list-spec : {M : Type 1} → statement M
-unsigned-list-spec =
+pub signed-list-spec : {M : Type 1} → statement M
+signed-list-spec =
     tie.close
     (tie.spec
     Inv-loop
@@ -21,7 +21,6 @@ unsigned-list-spec =
     (λ c κs. tt)
     (λ c. omega arith)
     (λ c. omega arith)
-    (λ c. omega (arith, c .shared-slice-known2 .given (c .before .before .before .loop .i)))
     (λ c κs. tt)
     (λ c. omega arith)
     (λ c. omega arith)

@@ -1,0 +1,2 @@
+-- What the contracts of `cases` cite.
+pub mod Counted

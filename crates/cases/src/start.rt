@@ -1,0 +1,42 @@
+// A call of the fresh start.
+use crate::arguments;
+use crate::report;
+use voice::StartAnswer;
+use voice::fresh_start;
+
+pub fn answer(text: &[u8], at: usize) {
+    let mut first = [0i32; 130];
+    let mut second = [0i32; 130];
+    let mut contact = [0i32; 130];
+    let mut heights = [0i32; 2];
+    let setup_read = arguments::setup(text, at);
+    let first_read = arguments::signed_list(text, setup_read.end, &mut first);
+    let second_read = arguments::signed_list(text, first_read.end, &mut second);
+    let contact_read = arguments::signed_list(text, second_read.end, &mut contact);
+    arguments::signed_list(text, contact_read.end, &mut heights);
+    let setup = setup_read.setup;
+    let first_count = first_read.count;
+    let second_count = second_read.count;
+    let contact_count = contact_read.count;
+    let start = fresh_start(
+        setup,
+        &mut first[..first_count],
+        &mut second[..second_count],
+        &mut contact[..contact_count],
+        heights[0],
+        heights[1],
+    );
+    match start {
+        StartAnswer::Accepted(started) => {
+            printing::text(b"0");
+            let finger = started.finger;
+            report::turn_and_finger(started.turn, finger);
+        }
+        StartAnswer::Refused(number) => printing::unsigned(number as u64),
+    }
+    report::strings(
+        &first[..first_count],
+        &second[..second_count],
+        &contact[..contact_count],
+    );
+}

@@ -1,0 +1,57 @@
+// Drawn numbers. The generator holds a number of 32 bits other than 0; reference/runs.py has the same one.
+ghost use Prim.Native.Nat.{_≤_, _<_};
+
+// The number that follows x.
+fn next(x: u32) -> u32 {
+    let a = x ^ (x << 13);
+    let b = a ^ (a >> 17);
+    b ^ (b << 5)
+}
+
+// A number below n.
+pub fn draw(x: &mut u32, n: u32) -> u32
+    requires { ⌜ 0 < n ⌝ }
+    ensures { λ r. ⌜ r < n ⌝ }
+{
+    *x = next(*x);
+    *x % n
+}
+
+// A number from 0 to the limit, small ones more often, 0 in a quarter of the draws.
+pub fn some(x: &mut u32, limit: u32) -> u32
+    requires { ⌜ limit < 4294967295 ⌝ }
+    ensures { λ r. ⌜ r ≤ limit ⌝ }
+{
+    if draw(x, 4) == 0 {
+        return 0;
+    }
+    let high = draw(x, limit + 1);
+    let middle = draw(x, high + 1);
+    draw(x, middle + 1)
+}
+
+// A number from 0 to the limit, in half of the draws any as often as another, in half small ones more often.
+pub fn evenly_or_some(x: &mut u32, limit: u32) -> u32
+    requires { ⌜ limit < 4294967295 ⌝ }
+    ensures { λ r. ⌜ r ≤ limit ⌝ }
+{
+    if draw(x, 2) == 0 {
+        draw(x, limit + 1)
+    } else {
+        some(x, limit)
+    }
+}
+
+// A number from −size to size.
+pub fn around(x: &mut u32, size: u32) -> i32
+    requires { ⌜ size ≤ 1073741824 ⌝ }
+{
+    let drawn = draw(x, 2 * size + 1);
+    (drawn as i64 - size as i64) as i32
+}
+
+// A force out of range.
+pub fn beyond(x: &mut u32) -> i32 {
+    let size = 1073741825 + draw(x, 1073741823) as i32;
+    if draw(x, 2) == 0 { size } else { 0 - size }
+}

@@ -1,0 +1,96 @@
+"""Drawn setups, necks, fingers and forces, by a generator that program `runs` has too."""
+
+from string_voice.setup import Setup
+
+BITS = 0xFFFF_FFFF
+
+
+class Generator:
+    """Holds a number of 32 bits other than 0."""
+
+    def __init__(self, seed):
+        self.x = seed
+
+    def draw(self, n):
+        """A number below n."""
+        x = self.x
+        x ^= x << 13 & BITS
+        x ^= x >> 17
+        x ^= x << 5 & BITS
+        self.x = x
+        return x % n
+
+    def some(self, limit):
+        """A number from 0 to the limit, small ones more often, 0 in a quarter of the draws."""
+        if self.draw(4) == 0:
+            return 0
+        return self.draw(self.draw(self.draw(limit + 1) + 1) + 1)
+
+    def evenly_or_some(self, limit):
+        """A number from 0 to the limit, in half of the draws any as often as another, in half small ones more often."""
+        return self.draw(limit + 1) if self.draw(2) == 0 else self.some(limit)
+
+    def around(self, size):
+        """A number from −size to size."""
+        return self.draw(2 * size + 1) - size
+
+    def beyond(self):
+        """A force out of range."""
+        size = 1_073_741_825 + self.draw(1_073_741_823)
+        return size if self.draw(2) == 0 else -size
+
+
+def drawn_setup(generator, segments):
+    """A setup that is accepted, with so many segments."""
+    tension = 1 + generator.draw(4096)
+    stiffness = generator.some((4096 - tension) // 4)
+    return Setup(
+        segments=segments,
+        tension=tension,
+        stiffness=stiffness,
+        viscous=generator.some((4096 - tension - 4 * stiffness) // 2),
+        plain=generator.some(4096),
+        finger_stiffness=generator.evenly_or_some(65_535),
+        finger_mass=1 + generator.evenly_or_some(1_048_575),
+        finger_place=1 + generator.draw(segments - 1),
+        pluck_place=1 + generator.draw(segments - 1),
+        bridge_place=1 + generator.draw(segments - 1),
+        neck_place=1 + generator.draw(segments - 1),
+    )
+
+
+def drawn_neck(generator, segments):
+    """What laying a neck takes: board heights and stiffness, fret places, tip height, fret stiffness."""
+    depth = generator.some(524_288)
+    roughness = generator.some(524_288)
+    board = [-(depth + generator.draw(roughness + 1)) for _ in range(1, segments)]
+    spacing = 1 + generator.draw(128)
+    frets = [place for place in range(1, segments) if generator.draw(spacing) == 0][:24]
+    tip = -generator.draw(depth + 1)
+    board_stiffness = generator.evenly_or_some(65_535)
+    return board, board_stiffness, frets, tip, generator.evenly_or_some(65_535)
+
+
+def drawn_heights(generator):
+    """The finger's height and its older height: at rest, or in a quarter of the draws coming down, or in a quarter anywhere before."""
+    height = generator.some(786_432)
+    kind = generator.draw(4)
+    if kind == 0:
+        return height, height + generator.draw(262_145)
+    if kind == 1:
+        return height, generator.around(1_048_576)
+    return height, height
+
+
+def drawn_forces(generator):
+    """The forces of 64 frames: some plucks, then none; some finger forces, then none; in a quarter of the draws one of them out of range."""
+    pluck_size, finger_size = generator.some(1_073_741_824), generator.some(1_073_741_824)
+    plucked, pressed = generator.some(64), generator.some(64)
+    forces = []
+    for frame in range(64):
+        forces.append(generator.around(pluck_size) if frame < plucked else 0)
+        forces.append(generator.around(finger_size) if frame < pressed else 0)
+    if generator.draw(4) == 0:
+        which = generator.draw(128)
+        forces[which] = generator.beyond()
+    return forces

@@ -1,0 +1,120 @@
+"""Writes crates/runs/stdout: long runs on drawn setups, necks, fingers and forces, played by the reference.
+
+A run is stretches of 256 frames, each of them four parts of 64: a block, single steps, a block, single steps. The checksum of a run takes in every
+refusal, and after each part the turn, the finger, all buffers and all samples.
+"""
+
+import struct
+from concurrent.futures import ProcessPoolExecutor
+from pathlib import Path
+
+from calls import single_bits
+from drawn import BITS, Generator, drawn_forces, drawn_heights, drawn_neck, drawn_setup
+from string_voice.neck import lay_neck
+from string_voice.playing import play_block
+from string_voice.ranges import Refused
+from string_voice.setup import check_setup
+from string_voice.step import fresh_start, step
+
+RUNS = 48
+STRETCHES = 20
+
+
+class Run:
+    def __init__(self, seed, segments):
+        self.seed = seed
+        self.generator = Generator(seed)
+        self.setup = drawn_setup(self.generator, segments)
+        check_setup(self.setup)
+        points = segments - 1
+        self.heights, self.stiffness = [0] * points, [0] * points
+        lay_neck(self.setup, *drawn_neck(self.generator, segments), self.heights, self.stiffness)
+        self.first, self.second, self.contact = [0] * points, [0] * points, [0] * points
+        self.samples = [0] * 128
+        self.steps, self.refused, self.checksum = 0, {12: 0, 13: 0, 14: 0}, 2_166_136_261
+        self.start()
+
+    def start(self):
+        """Starts anew, with a drawn finger."""
+        self.turn, self.finger = fresh_start(self.setup, self.first, self.second, self.contact, *drawn_heights(self.generator))
+
+    @property
+    def voice(self):
+        """What step and block are both lent."""
+        return self.setup, self.heights, self.stiffness, self.first, self.second, self.contact, self.turn, self.finger
+
+    def add(self, *words):
+        """Takes words of 32 bits into the checksum: FNV-1a, by words."""
+        for word in words:
+            self.checksum = (self.checksum ^ word) * 16_777_619 & BITS
+
+    def count(self, refusal):
+        """Counts a call that was refused with this number, or with none, 0."""
+        self.add(refusal)
+        if refusal:
+            self.refused[refusal] += 1
+
+    def block(self, forces):
+        """64 frames as one block. Answers its refusal, 0 if it has none."""
+        played = play_block(*self.voice, forces, self.samples)
+        self.turn, self.finger = played.turn, played.finger
+        self.steps += played.count
+        self.count(played.refusal)
+        return played.refusal
+
+    def singles(self, forces):
+        """64 frames as single steps; one that is refused does not end them. Answers the last one's refusal."""
+        for frame in range(64):
+            refusal = 0
+            try:
+                stepped = step(*self.voice, *forces[2 * frame : 2 * frame + 2])
+                self.turn, self.finger = stepped.turn, stepped.finger
+                self.samples[2 * frame : 2 * frame + 2] = stepped.frame
+                self.steps += 1
+            except Refused as refused:
+                refusal = refused.number
+            self.count(refusal)
+        return refusal
+
+    def part(self, play):
+        """64 frames. After 13 or 14 the voice starts anew."""
+        refusal = play(drawn_forces(self.generator))
+        finger = self.finger
+        numbers = [finger.newer, finger.older, finger.contact, *self.first, *self.second, *self.contact]
+        self.add(self.turn, *(x + 2**31 for x in numbers), *(struct.unpack(">I", struct.pack(">f", x))[0] for x in self.samples))
+        if refusal > 12:
+            self.start()
+
+    def line(self, stretch):
+        """What a stretch came to."""
+        finger = self.finger
+        return (
+            f"run {self.seed} stretch {stretch} steps {self.steps} refused {' '.join(map(str, self.refused.values()))}"
+            f" strings {sum(self.first)} {sum(self.second)} contact {sum(self.contact)}"
+            f" finger {finger.newer} {finger.older} {finger.contact} turn {self.turn}"
+            f" samples {' '.join(map(single_bits, self.samples[126:]))} checksum {self.checksum:08x}"
+        )
+
+
+def lines_of(number):
+    """The lines of a run. The segments of the runs go evenly from 2 to 128."""
+    run = Run(number + 1, 2 + number * 126 // (RUNS - 1))
+    lines = []
+    for stretch in range(STRETCHES):
+        if run.generator.draw(4) == 0:
+            run.start()
+        for play in (run.block, run.singles, run.block, run.singles):
+            run.part(play)
+        lines.append(run.line(stretch))
+    return lines
+
+
+def main():
+    with ProcessPoolExecutor() as pool:
+        lines = [line for run in pool.map(lines_of, range(RUNS)) for line in run]
+    path = Path(__file__).resolve().parent.parent / "crates" / "runs" / "stdout"
+    path.write_text("\n".join(lines) + "\n")
+
+
+if __name__ == "__main__":
+    main()
