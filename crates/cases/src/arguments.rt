@@ -1,5 +1,5 @@
 // The arguments of a call: lists of numbers, each under its label, and what is made of such lists.
-ghost use Rattle.cases.specs.Counted.{Counted, VoiceCounted};
+ghost use Rattle.cases.specs.Counted.{Counted};
 use crate::words::Word;
 use crate::words::after_label;
 use crate::words::next_word;
@@ -63,6 +63,23 @@ pub fn short_list(text: &[u8], at: usize, out: &mut [u16]) -> List
     List { count, end }
 }
 
+// Whole numbers as samples.
+pub fn sample_list(text: &[u8], at: usize, out: &mut [f32]) -> List
+    ensures { λ r. ⌜ Counted (r .count) (now (out .exit)) ⌝ }
+{
+    let mut count = 0;
+    let mut end = after_label(text, at);
+    while count < out.len() {
+        let Word::Number(_, size, past) = next_word(text, end) else {
+            break;
+        };
+        out[count] = (size % 65536) as u16 as f32;
+        count += 1;
+        end = past;
+    }
+    List { count, end }
+}
+
 pub struct SetupRead {
     pub setup: Setup,
     pub end: usize,
@@ -92,54 +109,21 @@ pub fn setup(text: &[u8], at: usize) -> SetupRead {
     }
 }
 
-// What step and block are both lent: the setup, the length of each buffer, the turn and the finger; and where that ends.
-pub struct VoiceRead {
-    pub setup: Setup,
-    pub heights: usize,
-    pub stiffness: usize,
-    pub first: usize,
-    pub second: usize,
-    pub contact: usize,
-    pub turn: u32,
+pub struct FingerRead {
     pub finger: Finger,
     pub end: usize,
 }
 
-pub fn voice(
-    text: &[u8],
-    at: usize,
-    heights: &mut [i32],
-    stiffness: &mut [u16],
-    first: &mut [i32],
-    second: &mut [i32],
-    contact: &mut [i32],
-) -> VoiceRead
-    ensures { λ r. ⌜ VoiceCounted r (now (heights .exit)) (now (stiffness .exit)) (now (first .exit)) (now (second .exit)) (now (contact .exit)) ⌝ }
-{
-    let setup = setup(text, at);
-    let heights_read = signed_list(text, setup.end, heights);
-    let stiffness_read = short_list(text, heights_read.end, stiffness);
-    let first_read = signed_list(text, stiffness_read.end, first);
-    let second_read = signed_list(text, first_read.end, second);
-    let contact_read = signed_list(text, second_read.end, contact);
-    let mut turn = [0u32; 1];
-    let turn_read = unsigned_list(text, contact_read.end, &mut turn);
-    let mut finger = [0i32; 3];
-    let finger_read = signed_list(text, turn_read.end, &mut finger);
-    let read_setup = setup.setup;
-    VoiceRead {
-        setup: read_setup,
-        heights: heights_read.count,
-        stiffness: stiffness_read.count,
-        first: first_read.count,
-        second: second_read.count,
-        contact: contact_read.count,
-        turn: turn[0],
+// A finger's newer height, older height and contact variable.
+pub fn finger(text: &[u8], at: usize) -> FingerRead {
+    let mut fields = [0i32; 3];
+    let list = signed_list(text, at, &mut fields);
+    FingerRead {
         finger: Finger {
-            newer: finger[0],
-            older: finger[1],
-            contact: finger[2],
+            newer: fields[0],
+            older: fields[1],
+            contact: fields[2],
         },
-        end: finger_read.end,
+        end: list.end,
     }
 }

@@ -1,7 +1,9 @@
-// A call of a block.
+// A call of a block: its forces and samples, and what it answers.
 use crate::arguments;
 use crate::report;
 use voice::BlockAnswer;
+use voice::Finger;
+use voice::Setup;
 use voice::play_block;
 
 fn report_answer(played: BlockAnswer) {
@@ -13,53 +15,39 @@ fn report_answer(played: BlockAnswer) {
     report::turn_and_finger(played.turn, finger);
 }
 
-// Reads samples, whole numbers, to the front of `samples`.
-fn samples(text: &[u8], at: usize, samples: &mut [f32; 130]) -> usize {
-    let mut numbers = [0u16; 130];
-    let list = arguments::short_list(text, at, &mut numbers);
-    for i in 0..130 {
-        samples[i] = numbers[i] as f32;
-    }
-    list.count
-}
-
-pub fn answer(text: &[u8], at: usize) {
-    let mut heights = [0i32; 130];
-    let mut stiffness = [0u16; 130];
-    let mut first = [0i32; 130];
-    let mut second = [0i32; 130];
-    let mut contact = [0i32; 130];
+// Reads forces and samples, plays a block and reports.
+pub fn play(
+    text: &[u8],
+    at: usize,
+    setup: Setup,
+    heights: &[i32],
+    stiffness: &[u16],
+    first: &mut [i32],
+    second: &mut [i32],
+    contact: &mut [i32],
+    turn: u32,
+    finger: Finger,
+) {
     let mut forces = [0i32; 130];
     let mut lent = [0.0f32; 130];
-    let read = arguments::voice(text, at, &mut heights, &mut stiffness, &mut first, &mut second, &mut contact);
-    let forces_read = arguments::signed_list(text, read.end, &mut forces);
-    let samples_count = samples(text, forces_read.end, &mut lent);
-    let setup = read.setup;
-    let finger = read.finger;
-    let heights_count = read.heights;
-    let stiffness_count = read.stiffness;
-    let first_count = read.first;
-    let second_count = read.second;
-    let contact_count = read.contact;
+    let forces_read = arguments::signed_list(text, at, &mut forces);
+    let samples_read = arguments::sample_list(text, forces_read.end, &mut lent);
     let forces_count = forces_read.count;
-    let played = play_block(
+    let samples_count = samples_read.count;
+    let samples = &mut lent[..samples_count];
+    report_answer(play_block(
         setup,
-        &heights[..heights_count],
-        &stiffness[..stiffness_count],
-        &mut first[..first_count],
-        &mut second[..second_count],
-        &mut contact[..contact_count],
-        read.turn,
+        heights,
+        stiffness,
+        first,
+        second,
+        contact,
+        turn,
         finger,
         &forces[..forces_count],
-        &mut lent[..samples_count],
-    );
-    report_answer(played);
-    report::strings(
-        &first[..first_count],
-        &second[..second_count],
-        &contact[..contact_count],
-    );
+        samples,
+    ));
+    report::strings(first, second, contact);
     printing::text(b" samples");
-    printing::single_list(&lent[..samples_count]);
+    printing::single_list(samples);
 }

@@ -1,7 +1,11 @@
 // Answers the calls on standard input, one to a line, and prints what each answers and what the lent buffers hold after it.
 // A call is an operation's name, then each argument under its label, as whole numbers; a line that starts with '#' is printed as it is.
+ghost use mathlib.Core.Path.{_≡_};
+ghost use lib.ListN.{length};
+
 mod arguments;
 mod block;
+mod lent;
 mod neck;
 mod newest;
 mod reading;
@@ -24,10 +28,10 @@ fn answer(text: &[u8], at: usize) {
         start::answer(text, arguments);
     }
     if words::is_word(text, at, b"step") {
-        step::answer(text, arguments);
+        lent::answer(text, arguments, false);
     }
     if words::is_word(text, at, b"block") {
-        block::answer(text, arguments);
+        lent::answer(text, arguments, true);
     }
     if words::is_word(text, at, b"newest") {
         newest::answer(text, arguments);
@@ -38,10 +42,8 @@ fn answer(text: &[u8], at: usize) {
     printing::text(b"\n");
 }
 
-fn main() {
-    let mut space = [0u8; 262144];
-    let filled = io::read_full(0, &mut space);
-    let text = &space[..filled];
+// Answers every call of the text.
+fn answer_all(text: &[u8]) {
     let mut at = 0;
     while at < text.len() {
         let next = words::after_line(text, at);
@@ -52,4 +54,17 @@ fn main() {
         }
         at = next;
     }
+}
+
+// Room for the calls.
+fn room() -> [u8; 262144]
+    ensures { λ r. ⌜ 262144 ≡ length r ⌝ }
+{
+    [0; 262144]
+}
+
+fn main() {
+    let mut space = room();
+    let filled = io::read_full(0, &mut space);
+    answer_all(&space[..filled]);
 }

@@ -1,8 +1,29 @@
 // A call of the fresh start.
 use crate::arguments;
 use crate::report;
+use voice::Setup;
 use voice::StartAnswer;
 use voice::fresh_start;
+
+// Starts anew, and reports.
+fn start(
+    setup: Setup,
+    first: &mut [i32],
+    second: &mut [i32],
+    contact: &mut [i32],
+    height: i32,
+    older_height: i32,
+) {
+    match fresh_start(setup, first, second, contact, height, older_height) {
+        StartAnswer::Accepted(started) => {
+            printing::text(b"0");
+            let finger = started.finger;
+            report::turn_and_finger(started.turn, finger);
+        }
+        StartAnswer::Refused(number) => printing::unsigned(number as u64),
+    }
+    report::strings(first, second, contact);
+}
 
 pub fn answer(text: &[u8], at: usize) {
     let mut first = [0i32; 130];
@@ -18,25 +39,12 @@ pub fn answer(text: &[u8], at: usize) {
     let first_count = first_read.count;
     let second_count = second_read.count;
     let contact_count = contact_read.count;
-    let start = fresh_start(
+    start(
         setup,
         &mut first[..first_count],
         &mut second[..second_count],
         &mut contact[..contact_count],
         heights[0],
         heights[1],
-    );
-    match start {
-        StartAnswer::Accepted(started) => {
-            printing::text(b"0");
-            let finger = started.finger;
-            report::turn_and_finger(started.turn, finger);
-        }
-        StartAnswer::Refused(number) => printing::unsigned(number as u64),
-    }
-    report::strings(
-        &first[..first_count],
-        &second[..second_count],
-        &contact[..contact_count],
     );
 }

@@ -1,6 +1,8 @@
-// A call of step.
+// A call of step: its forces, and what it answers.
 use crate::arguments;
 use crate::report;
+use voice::Finger;
+use voice::Setup;
 use voice::StepAnswer;
 use voice::step;
 
@@ -17,38 +19,32 @@ fn report_answer(stepped: StepAnswer) {
     }
 }
 
-pub fn answer(text: &[u8], at: usize) {
-    let mut heights = [0i32; 130];
-    let mut stiffness = [0u16; 130];
-    let mut first = [0i32; 130];
-    let mut second = [0i32; 130];
-    let mut contact = [0i32; 130];
+// Reads the forces, makes a step and reports.
+pub fn make(
+    text: &[u8],
+    at: usize,
+    setup: Setup,
+    heights: &[i32],
+    stiffness: &[u16],
+    first: &mut [i32],
+    second: &mut [i32],
+    contact: &mut [i32],
+    turn: u32,
+    finger: Finger,
+) {
     let mut forces = [0i32; 2];
-    let read = arguments::voice(text, at, &mut heights, &mut stiffness, &mut first, &mut second, &mut contact);
-    arguments::signed_list(text, read.end, &mut forces);
-    let setup = read.setup;
-    let finger = read.finger;
-    let heights_count = read.heights;
-    let stiffness_count = read.stiffness;
-    let first_count = read.first;
-    let second_count = read.second;
-    let contact_count = read.contact;
-    let stepped = step(
+    arguments::signed_list(text, at, &mut forces);
+    report_answer(step(
         setup,
-        &heights[..heights_count],
-        &stiffness[..stiffness_count],
-        &mut first[..first_count],
-        &mut second[..second_count],
-        &mut contact[..contact_count],
-        read.turn,
+        heights,
+        stiffness,
+        first,
+        second,
+        contact,
+        turn,
         finger,
         forces[0],
         forces[1],
-    );
-    report_answer(stepped);
-    report::strings(
-        &first[..first_count],
-        &second[..second_count],
-        &contact[..contact_count],
-    );
+    ));
+    report::strings(first, second, contact);
 }

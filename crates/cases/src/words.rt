@@ -105,17 +105,11 @@ fn with_digit(size: u32, byte: u8) -> u32
     ((size as u64 * 10 + digit as u64) % 4294967296) as u32
 }
 
-// The number as a signed one; 0 if it is none of 32 bits.
+// The number as a signed one; one that is no number of 31 bits and a sign is −2^31.
 pub fn signed(negative: bool, size: u32) -> i32 {
-    let wide = size as i64;
-    if negative {
-        if wide > 2147483648 {
-            return 0;
-        }
-        return (0 - wide) as i32;
+    if size > 2147483647 {
+        return -2147483648;
     }
-    if wide > 2147483647 {
-        return 0;
-    }
-    wide as i32
+    let number = size as i32;
+    if negative { 0 - number } else { number }
 }

@@ -18,21 +18,26 @@ pub fn signed(x: i32) {
     }
 }
 
-// The bits of a float in hexadecimal, the highest first; a word for a NaN, whose bits are not told.
-pub fn single(x: f32) {
+// The bits of a float; all ones for a NaN, whose bits are not told.
+pub fn single_bits(x: f32) -> u32 {
+    if x == x { f32::to_bits(x) } else { 4294967295 }
+}
+
+pub fn double_bits(x: f64) -> u64 {
     if x == x {
-        io::print_hex(1, f32::to_bits(x) as u64, 8);
+        f64::to_bits(x)
     } else {
-        text(b"NaN");
+        18446744073709551615
     }
 }
 
+// The same in hexadecimal, the highest digit first.
+pub fn single(x: f32) {
+    io::print_hex(1, single_bits(x) as u64, 8);
+}
+
 pub fn double(x: f64) {
-    if x == x {
-        io::print_hex(1, f64::to_bits(x), 16);
-    } else {
-        text(b"NaN");
-    }
+    io::print_hex(1, double_bits(x), 16);
 }
 
 fn space() {

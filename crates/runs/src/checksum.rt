@@ -26,11 +26,7 @@ pub fn signed_list(sum: u32, numbers: &[i32]) -> u32 {
 }
 
 pub fn single(sum: u32, x: f32) -> u32 {
-    if x == x {
-        word(sum, f32::to_bits(x))
-    } else {
-        word(sum, 4294967295)
-    }
+    word(sum, printing::single_bits(x))
 }
 
 pub fn single_list(sum: u32, numbers: &[f32]) -> u32 {

@@ -57,11 +57,27 @@ fn part(
     inputs::forces(x, &mut forces);
     let mut after = if in_block {
         play::block(
-            setup, heights, stiffness, first, second, contact, before, &forces, samples,
+            setup,
+            heights,
+            stiffness,
+            first,
+            second,
+            contact,
+            before,
+            &forces,
+            samples,
         )
     } else {
         play::singles(
-            setup, heights, stiffness, first, second, contact, before, &forces, samples,
+            setup,
+            heights,
+            stiffness,
+            first,
+            second,
+            contact,
+            before,
+            &forces,
+            samples,
         )
     };
     after = progress::with_state(after, first, second, contact, samples);
@@ -94,10 +110,54 @@ fn stretches(
         if generator::draw(x, 4) == 0 {
             now = start(x, setup, first, second, contact, now);
         }
-        now = part(x, setup, heights, stiffness, first, second, contact, now, true, &mut samples);
-        now = part(x, setup, heights, stiffness, first, second, contact, now, false, &mut samples);
-        now = part(x, setup, heights, stiffness, first, second, contact, now, true, &mut samples);
-        now = part(x, setup, heights, stiffness, first, second, contact, now, false, &mut samples);
+        now = part(
+            x,
+            setup,
+            heights,
+            stiffness,
+            first,
+            second,
+            contact,
+            now,
+            true,
+            &mut samples,
+        );
+        now = part(
+            x,
+            setup,
+            heights,
+            stiffness,
+            first,
+            second,
+            contact,
+            now,
+            false,
+            &mut samples,
+        );
+        now = part(
+            x,
+            setup,
+            heights,
+            stiffness,
+            first,
+            second,
+            contact,
+            now,
+            true,
+            &mut samples,
+        );
+        now = part(
+            x,
+            setup,
+            heights,
+            stiffness,
+            first,
+            second,
+            contact,
+            now,
+            false,
+            &mut samples,
+        );
         report::stretch(run, stretch, now, first, second, contact, &samples[126..]);
     }
 }
@@ -112,7 +172,12 @@ fn run(seed: u32, segments: u32) {
     let mut first = [0i32; 127];
     let mut second = [0i32; 127];
     let mut contact = [0i32; 127];
-    let laid = inputs::neck(&mut x, setup, &mut heights[..points], &mut stiffness[..points]);
+    let laid = inputs::neck(
+        &mut x,
+        setup,
+        &mut heights[..points],
+        &mut stiffness[..points],
+    );
     stretches(
         seed,
         &mut x,

@@ -8,11 +8,11 @@ use voice::StepAnswer;
 pub struct Progress {
     pub turn: u32,
     pub finger: Finger,
-    pub steps: u32,                 // accepted
-    pub forces_refused: u32,        // steps refused with 12
+    pub steps: u32, // accepted
+    pub forces_refused: u32, // steps refused with 12
     pub displacements_refused: u32, // with 13
-    pub contacts_refused: u32,      // with 14
-    pub refusal: u32,               // of the last call, 0 if it had none
+    pub contacts_refused: u32, // with 14
+    pub refusal: u32, // of the last call, 0 if it had none
     pub checksum: u32,
 }
 
