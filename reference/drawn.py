@@ -30,14 +30,17 @@ class Generator:
         """A number from 0 to the limit, in half of the draws any as often as another, in half small ones more often."""
         return self.draw(limit + 1) if self.draw(2) == 0 else self.some(limit)
 
-    def around(self, size):
-        """A number from −size to size."""
-        return self.draw(2 * size + 1) - size
+    def either(self, size):
+        """A number of this size, above or below 0."""
+        return size if self.draw(2) == 0 else -size
+
+    def around(self, limit):
+        """A number from −limit to limit."""
+        return self.either(self.draw(limit + 1))
 
     def beyond(self):
         """A force out of range."""
-        size = 1_073_741_825 + self.draw(1_073_741_823)
-        return size if self.draw(2) == 0 else -size
+        return self.either(1_073_741_825 + self.draw(1_073_741_823))
 
 
 def drawn_setup(generator, segments):
@@ -84,12 +87,13 @@ def drawn_heights(generator):
 
 def drawn_forces(generator):
     """The forces of 64 frames: some plucks, then none; some finger forces, then none; in a quarter of the draws one of them out of range."""
-    pluck_size, finger_size = generator.some(1_073_741_824), generator.some(1_073_741_824)
+    pluck_limit, finger_limit = generator.some(1_073_741_824), generator.some(1_073_741_824)
     plucked, pressed = generator.some(64), generator.some(64)
-    forces = []
-    for frame in range(64):
-        forces.append(generator.around(pluck_size) if frame < plucked else 0)
-        forces.append(generator.around(finger_size) if frame < pressed else 0)
+    forces = [0] * 128
+    for frame in range(plucked):
+        forces[2 * frame] = generator.around(pluck_limit)
+    for frame in range(pressed):
+        forces[2 * frame + 1] = generator.around(finger_limit)
     if generator.draw(4) == 0:
         which = generator.draw(128)
         forces[which] = generator.beyond()

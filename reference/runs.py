@@ -4,12 +4,11 @@ A run is stretches of 256 frames, each of them four parts of 64: a block, single
 refusal, and after each part the turn, the finger, all buffers and all samples.
 """
 
-import struct
 from concurrent.futures import ProcessPoolExecutor
 from pathlib import Path
 
 from calls import single_bits
-from drawn import BITS, Generator, drawn_forces, drawn_heights, drawn_neck, drawn_setup
+from drawn import Generator, drawn_forces, drawn_heights, drawn_neck, drawn_setup
 from string_voice.neck import lay_neck
 from string_voice.playing import play_block
 from string_voice.ranges import Refused
@@ -17,7 +16,7 @@ from string_voice.setup import check_setup
 from string_voice.step import fresh_start, step
 
 RUNS = 48
-STRETCHES = 20
+STRETCHES = 24
 
 
 class Run:
@@ -31,7 +30,7 @@ class Run:
         lay_neck(self.setup, *drawn_neck(self.generator, segments), self.heights, self.stiffness)
         self.first, self.second, self.contact = [0] * points, [0] * points, [0] * points
         self.samples = [0] * 128
-        self.steps, self.refused, self.checksum = 0, {12: 0, 13: 0, 14: 0}, 2_166_136_261
+        self.steps, self.refused, self.checksum = 0, {12: 0, 13: 0, 14: 0}, 0
         self.start()
 
     def start(self):
@@ -44,9 +43,9 @@ class Run:
         return self.setup, self.heights, self.stiffness, self.first, self.second, self.contact, self.turn, self.finger
 
     def add(self, *words):
-        """Takes words of 32 bits into the checksum: FNV-1a, by words."""
+        """Takes words of 32 bits into the checksum."""
         for word in words:
-            self.checksum = (self.checksum ^ word) * 16_777_619 & BITS
+            self.checksum = (self.checksum * 16_777_619 + word) % 4_294_967_291
 
     def count(self, refusal):
         """Counts a call that was refused with this number, or with none, 0."""
@@ -81,7 +80,10 @@ class Run:
         refusal = play(drawn_forces(self.generator))
         finger = self.finger
         numbers = [finger.newer, finger.older, finger.contact, *self.first, *self.second, *self.contact]
-        self.add(self.turn, *(x + 2**31 for x in numbers), *(struct.unpack(">I", struct.pack(">f", x))[0] for x in self.samples))
+        self.add(self.turn)
+        for x in numbers:
+            self.add(int(x < 0), abs(x))
+        self.add(*(int(single_bits(x), 16) for x in self.samples))
         if refusal > 12:
             self.start()
 

@@ -8,14 +8,21 @@ pub fn unsigned(n: u64) {
     io::print_decimal(1, n);
 }
 
-pub fn signed(x: i32) {
+// The size of a number, without its sign.
+pub fn magnitude(x: i32) -> u64 {
     let wide = x as i64;
     if wide < 0 {
-        text(b"-");
-        unsigned((0 - wide) as u64);
+        (0 - wide) as u64
     } else {
-        unsigned(wide as u64);
+        wide as u64
     }
+}
+
+pub fn signed(x: i32) {
+    if x < 0 {
+        text(b"-");
+    }
+    unsigned(magnitude(x));
 }
 
 // The bits of a float; all ones for a NaN, whose bits are not told.

@@ -1,20 +1,17 @@
-// A running checksum of 32 bits: FNV-1a, by words of 32 bits instead of bytes.
-
-// The checksum of nothing.
-pub const START: u32 = 2166136261;
+// A running checksum of 32 bits: a polynomial modulo the greatest prime of 32 bits.
 
 // The checksum with a word more.
 pub fn word(sum: u32, word: u32) -> u32 {
-    (((sum ^ word) as u64 * 16777619) % 4294967296) as u32
+    ((sum as u64 * 16777619 + word as u64) % 4294967291) as u32
 }
 
-// A signed number as a word: 2^31 more than it.
-pub fn biased(x: i32) -> u32 {
-    (x as i64 + 2147483648) as u32
-}
-
+// With a number's sign and size.
 pub fn signed(sum: u32, x: i32) -> u32 {
-    word(sum, biased(x))
+    let sign = if x < 0 { 1 } else { 0 };
+    word(
+        word(sum, sign),
+        (printing::magnitude(x) % 4294967296) as u32,
+    )
 }
 
 pub fn signed_list(sum: u32, numbers: &[i32]) -> u32 {
@@ -25,6 +22,7 @@ pub fn signed_list(sum: u32, numbers: &[i32]) -> u32 {
     after
 }
 
+// With a float's bits.
 pub fn single(sum: u32, x: f32) -> u32 {
     word(sum, printing::single_bits(x))
 }

@@ -42,16 +42,34 @@ pub fn evenly_or_some(x: &mut u32, limit: u32) -> u32
     }
 }
 
-// A number from −size to size.
-pub fn around(x: &mut u32, size: u32) -> i32
-    requires { ⌜ size ≤ 1073741824 ⌝ }
+// −size.
+pub fn negative(size: u32) -> i32
+    requires { ⌜ size < 2147483648 ⌝ }
 {
-    let drawn = draw(x, 2 * size + 1);
-    (drawn as i64 - size as i64) as i32
+    0 - size as i32
+}
+
+// A number of this size, above or below 0.
+fn either(x: &mut u32, size: u32) -> i32
+    requires { ⌜ size < 2147483648 ⌝ }
+{
+    if draw(x, 2) == 0 {
+        size as i32
+    } else {
+        negative(size)
+    }
+}
+
+// A number from −limit to limit.
+pub fn around(x: &mut u32, limit: u32) -> i32
+    requires { ⌜ limit < 2147483648 ⌝ }
+{
+    let size = draw(x, limit + 1);
+    either(x, size)
 }
 
 // A force out of range.
 pub fn beyond(x: &mut u32) -> i32 {
-    let size = 1073741825 + draw(x, 1073741823) as i32;
-    if draw(x, 2) == 0 { size } else { 0 - size }
+    let size = 1073741825 + draw(x, 1073741823);
+    either(x, size)
 }

@@ -1,9 +1,13 @@
 // What a run is made of: setup, neck, finger and forces, all drawn.
+ghost use mathlib.Core.Path.{_≡_};
 ghost use Prim.Native.Nat.{_≤_, _<_};
+ghost use lib.ListN.{length};
+ghost use Rattle.io.specs.Counts.{Counts};
 use crate::generator::around;
 use crate::generator::beyond;
 use crate::generator::draw;
 use crate::generator::evenly_or_some;
+use crate::generator::negative;
 use crate::generator::some;
 use voice::FingerSetup;
 use voice::NeckAnswer;
@@ -47,42 +51,56 @@ fn board(x: &mut u32, depth: u32, heights: &mut [i32])
 {
     let roughness = some(x, 524288);
     for i in 0..heights.len() {
-        let down = depth + draw(x, roughness + 1);
-        heights[i] = 0 - down as i32;
+        heights[i] = negative(depth + draw(x, roughness + 1));
     }
 }
 
-// Increasing places below `segments`, at most 24, about one in `spacing`; answers how many.
-fn frets(x: &mut u32, segments: u32, spacing: u32, places: &mut [u32; 24]) -> usize
-    requires { ⌜ 0 < spacing ⌝ }
+// Adds a place behind the first `count`, if it is wanted and there is room; answers how many there are then.
+fn add_if(wanted: bool, places: &mut [u32], count: usize, place: u32) -> usize
+    requires { ⌜ count ≤ length (now places) ⌝ }
+    ensures { λ r. ⌜ r ≤ length (now (places .entry)) ⌝ }
 {
-    let mut count = 0;
-    for place in 1..segments {
-        if draw(x, spacing) == 0 {
-            if count < 24 {
-                places[count] = place;
-                count += 1;
-            }
+    if wanted {
+        if count < places.len() {
+            places[count] = place;
+            return count + 1;
         }
     }
     count
 }
 
-// Lays a neck into the two buffers; answers 0, or the refusal.
-pub fn neck(x: &mut u32, setup: Setup, heights: &mut [i32], stiffness: &mut [u16]) -> u32 {
+// Increasing places below `segments`, about one in `spacing`, as many as there is room for; answers how many.
+fn frets(x: &mut u32, segments: u32, spacing: u32, places: &mut [u32]) -> usize
+    requires { ⌜ 0 < spacing ⌝ }
+    ensures { λ r. ⌜ Counts r (now (places .exit)) ⌝ }
+{
+    let mut count = 0;
+    for place in 1..segments {
+        let wanted = draw(x, spacing) == 0;
+        count = add_if(wanted, places, count, place);
+    }
+    count
+}
+
+// Lays a neck over a drawn board; answers 0, or the refusal.
+pub fn neck(
+    x: &mut u32,
+    setup: Setup,
+    lowered: &mut [i32],
+    heights: &mut [i32],
+    stiffness: &mut [u16],
+) -> u32 {
     let depth = some(x, 524288);
-    let points = heights.len();
-    let mut lowered = [0i32; 127];
-    board(x, depth, &mut lowered[..points]);
+    board(x, depth, lowered);
     let mut places = [0u32; 24];
     let spacing = 1 + draw(x, 128);
     let count = frets(x, setup.segments, spacing, &mut places);
-    let tip = 0 - draw(x, depth + 1) as i32;
+    let tip = negative(draw(x, depth + 1));
     let board_stiffness = evenly_or_some(x, 65535) as u16;
     let fret_stiffness = evenly_or_some(x, 65535) as u16;
     match lay_neck(
         setup,
-        &lowered[..points],
+        lowered,
         board_stiffness,
         &places[..count],
         tip,
@@ -95,24 +113,27 @@ pub fn neck(x: &mut u32, setup: Setup, heights: &mut [i32], stiffness: &mut [u16
     }
 }
 
-// The forces of 64 frames: some plucks, then none; some finger forces, then none; in a quarter of the draws one of them out of range.
-pub fn forces(x: &mut u32, out: &mut [i32; 128]) {
-    let pluck_size = some(x, 1073741824);
-    let finger_size = some(x, 1073741824);
-    let plucked = some(x, 64) as usize;
-    let pressed = some(x, 64) as usize;
+// Forces within a limit at every other entry, `given` of them, then 0.
+fn every_other(x: &mut u32, limit: u32, given: u32, start: usize, out: &mut [i32; 128])
+    requires { ⌜ (limit < 2147483648) × (start < 2) × (length (now out) ≡ 128) ⌝ }
+    ensures { λ _. ⌜ length (now (out .exit)) ≡ 128 ⌝ }
+{
     for i in 0..64 {
-        out[2 * i] = if i < plucked {
-            around(x, pluck_size)
-        } else {
-            0
-        };
-        out[2 * i + 1] = if i < pressed {
-            around(x, finger_size)
-        } else {
-            0
-        };
+        let force = if i < given { around(x, limit) } else { 0 };
+        out[2 * i as usize + start] = force;
     }
+}
+
+// The forces of 64 frames: some plucks, then none; some finger forces, then none; in a quarter of the draws one of them out of range.
+pub fn forces(x: &mut u32, out: &mut [i32; 128])
+    requires { ⌜ length (now out) ≡ 128 ⌝ }
+{
+    let pluck_limit = some(x, 1073741824);
+    let finger_limit = some(x, 1073741824);
+    let plucked = some(x, 64);
+    let pressed = some(x, 64);
+    every_other(x, pluck_limit, plucked, 0, out);
+    every_other(x, finger_limit, pressed, 1, out);
     if draw(x, 4) == 0 {
         let which = draw(x, 128) as usize;
         out[which] = beyond(x);

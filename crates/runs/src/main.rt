@@ -1,5 +1,7 @@
 // Long runs on drawn setups, necks, fingers and forces. After each stretch of 256 frames, played in blocks and single steps in turn, a line says
 // what it came to. The file stdout is written by another implementation from the same seeds.
+ghost use Prim.Native.Nat.{_≤_, _<_};
+
 mod checksum;
 mod generator;
 mod inputs;
@@ -8,7 +10,6 @@ mod progress;
 mod report;
 
 use progress::Progress;
-use voice::Finger;
 use voice::Setup;
 use voice::StartAnswer;
 use voice::fresh_start;
@@ -22,14 +23,14 @@ fn start(
     contact: &mut [i32],
     before: Progress,
 ) -> Progress {
-    let height = generator::some(x, 786432) as i32;
+    let height = generator::some(x, 786432);
     let older = match generator::draw(x, 4) {
-        0 => height + generator::draw(x, 262145) as i32,
+        0 => (height + generator::draw(x, 262145)) as i32,
         1 => generator::around(x, 1048576),
-        _ => height,
+        _ => height as i32,
     };
     let mut after = before;
-    match fresh_start(setup, first, second, contact, height, older) {
+    match fresh_start(setup, first, second, contact, height as i32, older) {
         StartAnswer::Accepted(started) => {
             let finger = started.finger;
             after.turn = started.turn;
@@ -40,7 +41,22 @@ fn start(
     after
 }
 
-// 64 frames: as a block, or as single steps. After 13 or 14 the voice starts anew.
+// Starts anew after 13 or 14.
+fn start_if_refused(
+    x: &mut u32,
+    setup: Setup,
+    first: &mut [i32],
+    second: &mut [i32],
+    contact: &mut [i32],
+    before: Progress,
+) -> Progress {
+    if before.refusal <= 12 {
+        return before;
+    }
+    start(x, setup, first, second, contact, before)
+}
+
+// 64 frames, as a block or as single steps.
 fn part(
     x: &mut u32,
     setup: Setup,
@@ -55,41 +71,95 @@ fn part(
 ) -> Progress {
     let mut forces = [0i32; 128];
     inputs::forces(x, &mut forces);
-    let mut after = if in_block {
-        play::block(
+    let played = play::frames(
+        setup,
+        heights,
+        stiffness,
+        first,
+        second,
+        contact,
+        before,
+        in_block,
+        &forces,
+        samples,
+    );
+    let summed = progress::with_state(played, first, second, contact, samples);
+    start_if_refused(x, setup, first, second, contact, summed)
+}
+
+// 256 frames: a block, single steps, a block, single steps.
+fn parts(
+    x: &mut u32,
+    setup: Setup,
+    heights: &[i32],
+    stiffness: &[u16],
+    first: &mut [i32],
+    second: &mut [i32],
+    contact: &mut [i32],
+    before: Progress,
+    samples: &mut [f32; 128],
+) -> Progress {
+    let mut now = before;
+    for i in 0..4u32 {
+        let in_block = i % 2 == 0;
+        now = part(
+            x,
             setup,
             heights,
             stiffness,
             first,
             second,
             contact,
-            before,
-            &forces,
+            now,
+            in_block,
             samples,
-        )
-    } else {
-        play::singles(
-            setup,
-            heights,
-            stiffness,
-            first,
-            second,
-            contact,
-            before,
-            &forces,
-            samples,
-        )
-    };
-    after = progress::with_state(after, first, second, contact, samples);
-    if after.refusal > 12 {
-        after = start(x, setup, first, second, contact, after);
+        );
     }
-    after
+    now
+}
+
+// The same, after a fresh start in a quarter of the draws.
+fn stretch(
+    x: &mut u32,
+    setup: Setup,
+    heights: &[i32],
+    stiffness: &[u16],
+    first: &mut [i32],
+    second: &mut [i32],
+    contact: &mut [i32],
+    before: Progress,
+    samples: &mut [f32; 128],
+) -> Progress {
+    if generator::draw(x, 4) > 0 {
+        return parts(
+            x,
+            setup,
+            heights,
+            stiffness,
+            first,
+            second,
+            contact,
+            before,
+            samples,
+        );
+    }
+    let started = start(x, setup, first, second, contact, before);
+    parts(
+        x,
+        setup,
+        heights,
+        stiffness,
+        first,
+        second,
+        contact,
+        started,
+        samples,
+    )
 }
 
 // The stretches of a run, from a fresh start.
 fn stretches(
-    run: u32,
+    seed: u32,
     x: &mut u32,
     setup: Setup,
     heights: &[i32],
@@ -98,19 +168,10 @@ fn stretches(
     second: &mut [i32],
     contact: &mut [i32],
 ) {
-    let rest = Finger {
-        newer: 0,
-        older: 0,
-        contact: 0,
-    };
     let mut samples = [0.0f32; 128];
-    let mut now = progress::start(0, rest, checksum::START);
-    now = start(x, setup, first, second, contact, now);
-    for stretch in 0..20 {
-        if generator::draw(x, 4) == 0 {
-            now = start(x, setup, first, second, contact, now);
-        }
-        now = part(
+    let mut now = start(x, setup, first, second, contact, progress::none());
+    for i in 0..24 {
+        now = stretch(
             x,
             setup,
             heights,
@@ -119,74 +180,61 @@ fn stretches(
             second,
             contact,
             now,
-            true,
             &mut samples,
         );
-        now = part(
-            x,
-            setup,
-            heights,
-            stiffness,
-            first,
-            second,
-            contact,
-            now,
-            false,
-            &mut samples,
-        );
-        now = part(
-            x,
-            setup,
-            heights,
-            stiffness,
-            first,
-            second,
-            contact,
-            now,
-            true,
-            &mut samples,
-        );
-        now = part(
-            x,
-            setup,
-            heights,
-            stiffness,
-            first,
-            second,
-            contact,
-            now,
-            false,
-            &mut samples,
-        );
-        report::stretch(run, stretch, now, first, second, contact, &samples[126..]);
+        report::stretch(seed, i, now, first, second, contact, &samples);
     }
 }
 
+// A run on buffers of the right lengths: lays a neck, and plays.
+fn run_lent(
+    seed: u32,
+    setup: Setup,
+    board: &mut [i32],
+    heights: &mut [i32],
+    stiffness: &mut [u16],
+    first: &mut [i32],
+    second: &mut [i32],
+    contact: &mut [i32],
+    drawn: u32,
+) {
+    let mut x = drawn;
+    inputs::neck(&mut x, setup, board, heights, stiffness);
+    stretches(
+        seed,
+        &mut x,
+        setup,
+        heights,
+        stiffness,
+        first,
+        second,
+        contact,
+    );
+}
+
 // A run on a string of so many segments, with this seed.
-fn run(seed: u32, segments: u32) {
+fn run(seed: u32, segments: u32)
+    requires { ⌜ (1 < segments) × (segments ≤ 128) ⌝ }
+{
     let mut x = seed;
     let setup = inputs::setup(&mut x, segments);
     let points = segments as usize - 1;
+    let mut board = [0i32; 127];
     let mut heights = [0i32; 127];
     let mut stiffness = [0u16; 127];
     let mut first = [0i32; 127];
     let mut second = [0i32; 127];
     let mut contact = [0i32; 127];
-    let laid = inputs::neck(
-        &mut x,
+    run_lent(
+        seed,
         setup,
+        &mut board[..points],
         &mut heights[..points],
         &mut stiffness[..points],
-    );
-    stretches(
-        seed,
-        &mut x,
-        setup,
-        &heights[..points],
-        &stiffness[..points],
         &mut first[..points],
         &mut second[..points],
         &mut contact[..points],
+        x,
     );
 }
 

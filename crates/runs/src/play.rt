@@ -8,7 +8,7 @@ use voice::play_block;
 use voice::step;
 
 // 64 frames as one block.
-pub fn block(
+fn block(
     setup: Setup,
     heights: &[i32],
     stiffness: &[u16],
@@ -49,7 +49,7 @@ fn write_frame(answer: StepAnswer, at: usize, samples: &mut [f32; 128]) {
 }
 
 // 64 frames as single steps; one that is refused does not end them.
-pub fn singles(
+fn singles(
     setup: Setup,
     heights: &[i32],
     stiffness: &[u16],
@@ -79,4 +79,43 @@ pub fn singles(
         after = after_step(after, answer);
     }
     after
+}
+
+// 64 frames, as one block or as single steps.
+pub fn frames(
+    setup: Setup,
+    heights: &[i32],
+    stiffness: &[u16],
+    first: &mut [i32],
+    second: &mut [i32],
+    contact: &mut [i32],
+    before: Progress,
+    in_block: bool,
+    forces: &[i32; 128],
+    samples: &mut [f32; 128],
+) -> Progress {
+    if in_block {
+        return block(
+            setup,
+            heights,
+            stiffness,
+            first,
+            second,
+            contact,
+            before,
+            forces,
+            samples,
+        );
+    }
+    singles(
+        setup,
+        heights,
+        stiffness,
+        first,
+        second,
+        contact,
+        before,
+        forces,
+        samples,
+    )
 }

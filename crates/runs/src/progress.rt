@@ -16,17 +16,21 @@ pub struct Progress {
     pub checksum: u32,
 }
 
-// With nothing counted yet.
-pub fn start(turn: u32, finger: Finger, checksum: u32) -> Progress {
+// Nothing yet.
+pub fn none() -> Progress {
     Progress {
-        turn,
-        finger,
+        turn: 0,
+        finger: Finger {
+            newer: 0,
+            older: 0,
+            contact: 0,
+        },
         steps: 0,
         forces_refused: 0,
         displacements_refused: 0,
         contacts_refused: 0,
         refusal: 0,
-        checksum,
+        checksum: 0,
     }
 }
 

@@ -1,28 +1,23 @@
 // The line that is printed after each stretch.
-use crate::checksum::biased;
 use crate::progress::Progress;
+use std::num::wrapping_add_u64;
 
-// The sum of the numbers, as 2^31 for each of them more than it.
-fn biased_sum(numbers: &[i32]) -> u64 {
-    let mut sum: u64 = 0;
-    for i in 0..numbers.len() {
-        sum = std::num::wrapping_add_u64(sum, biased(numbers[i]) as u64);
-    }
-    sum
-}
-
-// The sum of the numbers.
+// The sum of the numbers: of those above 0, less the sizes of those below.
 fn sum(numbers: &[i32]) {
-    let mut bias: u64 = 0;
-    for _ in 0..numbers.len() {
-        bias = std::num::wrapping_add_u64(bias, 2147483648);
+    let mut above: u64 = 0;
+    let mut below: u64 = 0;
+    for i in 0..numbers.len() {
+        if numbers[i] < 0 {
+            below = wrapping_add_u64(below, printing::magnitude(numbers[i]));
+        } else {
+            above = wrapping_add_u64(above, printing::magnitude(numbers[i]));
+        }
     }
-    let sum = biased_sum(numbers);
-    if sum < bias {
+    if above < below {
         printing::text(b"-");
-        printing::unsigned(bias - sum);
+        printing::unsigned(below - above);
     } else {
-        printing::unsigned(sum - bias);
+        printing::unsigned(above - below);
     }
 }
 
@@ -50,7 +45,7 @@ pub fn stretch(
     first: &[i32],
     second: &[i32],
     contact: &[i32],
-    samples: &[f32],
+    samples: &[f32; 128],
 ) {
     labelled(b"run ", run);
     labelled(b" stretch ", stretch);
@@ -63,7 +58,7 @@ pub fn stretch(
     printing::signed_list(&[finger.newer, finger.older, finger.contact]);
     labelled(b" turn ", progress.turn);
     printing::text(b" samples");
-    printing::single_list(samples);
+    printing::single_list(&[samples[126], samples[127]]);
     printing::text(b" checksum ");
     io::print_hex(1, progress.checksum as u64, 8);
     printing::text(b"\n");

@@ -1,0 +1,15 @@
+-- The index stays below the length.
+use Prim.Native.Nat.{_-_}
+use native.Mathlib.Omega.{arith}
+use lib.ListN.{length}
+use Rattle.runs.proofs.checksum.signed_list.Statement.{statement}
+use Rattle.runs.proofs.checksum.signed_list.Tie as tie
+
+abbrev Inv-loop : tie.InvT-loop
+Inv-loop sum numbers after₀ i₀ i-end after i = Unit {0}
+
+abbrev μ-loop : tie.MeasureT-loop
+μ-loop sum numbers after₀ i₀ i-end after i = length numbers - i
+
+pub signed-list-spec : {M : Type 1} → statement M
+signed-list-spec = tie.close (tie.spec Inv-loop μ-loop (λ c. tt) (λ c. omega arith) (λ c. omega arith) (λ c κs. tt) (λ c. omega arith) (λ c. omega arith) (λ c. tt) (λ c. tt))
