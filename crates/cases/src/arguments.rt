@@ -1,4 +1,6 @@
 // The arguments of a call: lists of numbers, each under its label, and what is made of such lists.
+ghost use mathlib.Core.Path.{_≡_};
+ghost use lib.ListN.{length};
 ghost use Rattle.cases.specs.Counted.{Counted};
 use crate::words::Word;
 use crate::words::after_label;
@@ -7,6 +9,31 @@ use crate::words::signed;
 use voice::Finger;
 use voice::FingerSetup;
 use voice::Setup;
+
+// Room for a list. The length is what lending a part of it asks.
+pub fn signed_room() -> [i32; 130]
+    ensures { λ r. ⌜ 130 ≡ length r ⌝ }
+{
+    [0; 130]
+}
+
+pub fn unsigned_room() -> [u32; 30]
+    ensures { λ r. ⌜ 30 ≡ length r ⌝ }
+{
+    [0; 30]
+}
+
+pub fn short_room() -> [u16; 130]
+    ensures { λ r. ⌜ 130 ≡ length r ⌝ }
+{
+    [0; 130]
+}
+
+pub fn sample_room() -> [f32; 130]
+    ensures { λ r. ⌜ 130 ≡ length r ⌝ }
+{
+    [0.0; 130]
+}
 
 // A list that was read: how many numbers it has, and where it ends.
 pub struct List {

@@ -28,8 +28,8 @@ pub fn play(
     turn: u32,
     finger: Finger,
 ) {
-    let mut forces = [0i32; 130];
-    let mut lent = [0.0f32; 130];
+    let mut forces = arguments::signed_room();
+    let mut lent = arguments::sample_room();
     let forces_read = arguments::signed_list(text, at, &mut forces);
     let samples_read = arguments::sample_list(text, forces_read.end, &mut lent);
     let forces_count = forces_read.count;

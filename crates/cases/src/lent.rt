@@ -6,8 +6,8 @@ use voice::Setup;
 
 // Setup and neck.
 pub fn answer(text: &[u8], at: usize, in_block: bool) {
-    let mut heights = [0i32; 130];
-    let mut stiffness = [0u16; 130];
+    let mut heights = arguments::signed_room();
+    let mut stiffness = arguments::short_room();
     let setup_read = arguments::setup(text, at);
     let heights_read = arguments::signed_list(text, setup_read.end, &mut heights);
     let stiffness_read = arguments::short_list(text, heights_read.end, &mut stiffness);
@@ -33,9 +33,9 @@ fn with_neck(
     heights: &[i32],
     stiffness: &[u16],
 ) {
-    let mut first = [0i32; 130];
-    let mut second = [0i32; 130];
-    let mut contact = [0i32; 130];
+    let mut first = arguments::signed_room();
+    let mut second = arguments::signed_room();
+    let mut contact = arguments::signed_room();
     let first_read = arguments::signed_list(text, at, &mut first);
     let second_read = arguments::signed_list(text, first_read.end, &mut second);
     let contact_read = arguments::signed_list(text, second_read.end, &mut contact);

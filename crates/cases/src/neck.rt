@@ -7,7 +7,7 @@ use voice::lay_neck;
 
 // Setup and board.
 pub fn answer(text: &[u8], at: usize) {
-    let mut board = [0i32; 130];
+    let mut board = arguments::signed_room();
     let mut stiffness = [0u16; 1];
     let setup_read = arguments::setup(text, at);
     let board_read = arguments::signed_list(text, setup_read.end, &mut board);
@@ -25,7 +25,7 @@ pub fn answer(text: &[u8], at: usize) {
 
 // Frets.
 fn with_board(text: &[u8], at: usize, setup: Setup, board: &[i32], board_stiffness: u16) {
-    let mut frets = [0u32; 30];
+    let mut frets = arguments::unsigned_room();
     let mut tip = [0i32; 1];
     let mut stiffness = [0u16; 1];
     let frets_read = arguments::unsigned_list(text, at, &mut frets);
@@ -55,8 +55,8 @@ fn with_frets(
     tip: i32,
     fret_stiffness: u16,
 ) {
-    let mut lent_heights = [0i32; 130];
-    let mut lent_stiffness = [0u16; 130];
+    let mut lent_heights = arguments::signed_room();
+    let mut lent_stiffness = arguments::short_room();
     let heights_read = arguments::signed_list(text, at, &mut lent_heights);
     let stiffness_read = arguments::short_list(text, heights_read.end, &mut lent_stiffness);
     let heights_count = heights_read.count;

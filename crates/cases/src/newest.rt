@@ -4,8 +4,8 @@ use crate::report;
 use voice::newest;
 
 pub fn answer(text: &[u8], at: usize) {
-    let mut first = [0i32; 130];
-    let mut second = [0i32; 130];
+    let mut first = arguments::signed_room();
+    let mut second = arguments::signed_room();
     let mut turn = [0u32; 1];
     let first_read = arguments::signed_list(text, at, &mut first);
     let second_read = arguments::signed_list(text, first_read.end, &mut second);

@@ -20,9 +20,9 @@ fn report_answer(reading: Reading) {
 }
 
 pub fn answer(text: &[u8], at: usize) {
-    let mut heights = [0i32; 130];
-    let mut first = [0i32; 130];
-    let mut second = [0i32; 130];
+    let mut heights = arguments::signed_room();
+    let mut first = arguments::signed_room();
+    let mut second = arguments::signed_room();
     let mut turn = [0u32; 1];
     let mut place = [0u32; 1];
     let setup_read = arguments::setup(text, at);

@@ -26,9 +26,9 @@ fn start(
 }
 
 pub fn answer(text: &[u8], at: usize) {
-    let mut first = [0i32; 130];
-    let mut second = [0i32; 130];
-    let mut contact = [0i32; 130];
+    let mut first = arguments::signed_room();
+    let mut second = arguments::signed_room();
+    let mut contact = arguments::signed_room();
     let mut heights = [0i32; 2];
     let setup_read = arguments::setup(text, at);
     let first_read = arguments::signed_list(text, setup_read.end, &mut first);
