@@ -26,8 +26,8 @@ use Rattle.kernel_moves.proofs.free_moves.Tie as tie
 use Rattle.kernel_moves.proofs.free_moves.Reads as reads
 use Rattle.kernel_moves.proofs.free_moves.Lts as lts
 use Rattle.kernel_moves.proofs.force_at.Reads as force-at-reads
-use Rattle.kernel_string.proofs.point.point_equation.Reads as point-equation-reads
-use Rattle.kernel_string.proofs.point.point_move.Reads as point-move-reads
+use Rattle.kernel_point.proofs.point_equation.Reads as point-equation-reads
+use Rattle.kernel_point.proofs.point_move.Reads as point-move-reads
 
 -- the move of the point at index k, were there no finger
 abbrev moveAt : Setup → (u v ψ : List ℤ) → ℤ → List ℤ → ℕ → ℤ

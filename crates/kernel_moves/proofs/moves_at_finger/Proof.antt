@@ -24,7 +24,7 @@ use Rattle.kernel_moves.proofs.moves_at_finger.Reads as reads
 use Rattle.kernel_moves.proofs.moves_at_finger.Lts as lts
 use Rattle.kernel_moves.proofs.force_at.Reads as force-at-reads
 use Rattle.kernel_rounding.proofs.system.finger_moves.Reads as finger-moves-reads
-use Rattle.kernel_string.proofs.point.point_equation.Reads as point-equation-reads
+use Rattle.kernel_point.proofs.point_equation.Reads as point-equation-reads
 
 abbrev Learnt : lts.Claims
 Learnt = (force-at-reads.Asked, force-at-reads.Learnt, point-equation-reads.Asked, point-equation-reads.Learnt, finger-moves-reads.Asked, finger-moves-reads.Learnt)
