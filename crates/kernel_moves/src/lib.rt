@@ -10,14 +10,14 @@ ghost use Rattle.model.specs.Ranges.{forceOk};
 ghost use Rattle.model.specs.Setup.{p, e, points};
 ghost use Rattle.model.specs.Step as Steps;
 ghost use Rattle.model.specs.Step.{factor, fingerSystem};
-ghost use Rattle.kernel_rounding.specs.Systems.{rounded, FingerRanges};
+ghost use Rattle.kernel_system.specs.Systems.{rounded, FingerRanges};
 ghost use Rattle.kernel_differences.specs.Weighted as Weights;
 ghost use Rattle.kernel_differences.specs.Weighted.{placed};
 ghost use Rattle.kernel_moves.specs.MoveRanges.{MoveRanges, sideAt, freeMoves};
 use kernel_differences::weighted;
 use kernel_point::point_equation;
 use kernel_point::point_move;
-use kernel_rounding::system::finger_moves;
+use kernel_system::finger_moves;
 use model::Finger;
 use model::Setup;
 

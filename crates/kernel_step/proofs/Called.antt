@@ -15,7 +15,7 @@ use Rattle.laws.specs.Accepted.{Examined, examined}
 use Rattle.laws.specs.InRange.{InRange, in-range}
 use Rattle.laws.specs.Refusals.{fails, passed-append, all-yes}
 use Rattle.laws.specs.Sizes.{StepRanges, small}
-use Rattle.kernel_rounding.specs.Systems.{FingerRanges}
+use Rattle.kernel_system.specs.Systems.{FingerRanges}
 use Rattle.kernel_differences.specs.Weighted.{StringRanges}
 use Rattle.kernel_moves.specs.MoveRanges.{MoveRanges}
 

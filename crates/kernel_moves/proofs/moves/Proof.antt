@@ -20,7 +20,7 @@ use Rattle.model.specs.System.{rounded₁, rounded₂}
 use Rattle.model.specs.Step as Steps
 use Rattle.model.specs.Step.{A, c, system, factor, fingerSystem}
 use Rattle.model.specs.declared.Setup.{Setup}
-use Rattle.kernel_rounding.specs.Systems.{rounded}
+use Rattle.kernel_system.specs.Systems.{rounded}
 use Rattle.kernel_moves.specs.MoveRanges.{sideAt, freeMoves}
 use Rattle.kernel_moves.proofs.InRange.{facts, most-points, gradient-read}
 use Rattle.kernel_moves.proofs.moves.Statement.{statement}

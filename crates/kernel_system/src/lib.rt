@@ -9,8 +9,8 @@ ghost use Rattle.model.specs.Ranges.{forceOk};
 ghost use Rattle.model.specs.Setup.{setupRules};
 ghost use Rattle.model.specs.Step.{fingerSystem};
 ghost use Rattle.promises.specs.Promises.{Passed};
-ghost use Rattle.kernel_rounding.specs.Systems.{systemOf, rounded, Solvable, FingerRanges};
-use crate::nearest;
+ghost use Rattle.kernel_system.specs.Systems.{systemOf, rounded, Solvable, FingerRanges};
+use kernel_rounding::nearest;
 use model::Finger;
 use model::Setup;
 

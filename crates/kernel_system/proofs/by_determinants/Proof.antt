@@ -11,12 +11,12 @@ use Rattle.integers.specs.Size.{_within_, wide}
 use Rattle.integers.specs.Machine.{Code, var, _⊟_, _⊠_, value, held, safe, result, held-within, answer}
 use Rattle.model.specs.System.{System, det, rounded₁, rounded₂}
 use Rattle.model.specs.Rounding.{nearest}
-use Rattle.kernel_rounding.specs.Systems.{entries, systemSizes, Solvable}
-use Rattle.kernel_rounding.proofs.system.by_determinants.Statement.{statement}
-use Rattle.kernel_rounding.proofs.system.by_determinants.Tie as tie
-use Rattle.kernel_rounding.proofs.system.by_determinants.Reads as reads
-use Rattle.kernel_rounding.proofs.system.by_determinants.Lts as lts
+use Rattle.kernel_system.specs.Systems.{entries, systemSizes, Solvable}
+use Rattle.kernel_system.proofs.by_determinants.Statement.{statement}
+use Rattle.kernel_system.proofs.by_determinants.Tie as tie
+use Rattle.kernel_system.proofs.by_determinants.Reads as reads
+use Rattle.kernel_system.proofs.by_determinants.Lts as lts
 use Rattle.kernel_rounding.proofs.nearest.Reads as nearest-reads
 
 -- the determinant and the two numerators, as the code works them out
 abbrev d : Code

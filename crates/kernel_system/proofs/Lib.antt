@@ -1,2 +1,2 @@
 -- Lemmas on two-by-two systems.
-pub mod Same
+mod Same

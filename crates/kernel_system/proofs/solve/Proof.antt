@@ -6,10 +6,10 @@ use mir.Syntax.{w64}
 use mir.Val.{toZ, ofZ}
 use Rattle.integers.specs.Machine.{var, result}
 use Rattle.model.specs.System.{System}
-use Rattle.kernel_rounding.specs.Systems.{rounded, Solvable}
-use Rattle.kernel_rounding.proofs.system.Same.{same-system}
-use Rattle.kernel_rounding.proofs.system.solve.Statement.{statement}
-use Rattle.kernel_rounding.proofs.system.solve.Tie as tie
+use Rattle.kernel_system.specs.Systems.{rounded, Solvable}
+use Rattle.kernel_system.proofs.Same.{same-system}
+use Rattle.kernel_system.proofs.solve.Statement.{statement}
+use Rattle.kernel_system.proofs.solve.Tie as tie
 
 abbrev read : ℤ → ℤ
 read x = toZ w64 (ofZ w64 x)
