@@ -20,7 +20,7 @@ use Rattle.model.specs.declared.Setup.{Setup}
 use Rattle.laws.specs.Accepted.{SetupFacts, setup-facts}
 use Rattle.laws.specs.Sizes.{Bounded, bounded, inside-within, only, side-size}
 use Rattle.kernel_point.specs.declared.Equation.{Equation}
-use Rattle.kernel_moves.specs.MoveRanges.{MoveRanges, sideAt}
+use Rattle.kernel_free_moves.specs.MoveRanges.{MoveRanges, sideAt}
 
 module _ {s : Setup} {u v ψ : List ℤ} {f : ℤ} (h : MoveRanges s u v ψ f) where
   pub facts : SetupFacts s

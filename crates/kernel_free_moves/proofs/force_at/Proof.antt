@@ -7,8 +7,8 @@ use lib.IntN.{pos}
 use mir.Facts.{toZ-ofZ, yes-eqb, no-eqb}
 use Rattle.integers.specs.Tests.{is-true, is-false}
 use Rattle.model.specs.Setup.{e}
-use Rattle.kernel_moves.proofs.force_at.Statement.{statement}
-use Rattle.kernel_moves.proofs.force_at.Tie as tie
+use Rattle.kernel_free_moves.proofs.force_at.Statement.{statement}
+use Rattle.kernel_free_moves.proofs.force_at.Tie as tie
 
 returns : tie.Need-returns
 returns c =

@@ -19,13 +19,13 @@ use Rattle.model.specs.Step.{factor}
 use Rattle.model.specs.declared.Setup.{Setup}
 use Rattle.laws.specs.Moves.{factor-positive}
 use Rattle.laws.specs.Sizes.{factor-size}
-use Rattle.kernel_moves.specs.MoveRanges.{sideAt, freeMoves}
-use Rattle.kernel_moves.proofs.InRange.{facts, most-points, side-within, gradient-read, equationAt, equation-is, force-ok}
-use Rattle.kernel_moves.proofs.free_moves.Statement.{statement}
-use Rattle.kernel_moves.proofs.free_moves.Tie as tie
-use Rattle.kernel_moves.proofs.free_moves.Reads as reads
-use Rattle.kernel_moves.proofs.free_moves.Lts as lts
-use Rattle.kernel_moves.proofs.force_at.Reads as force-at-reads
+use Rattle.kernel_free_moves.specs.MoveRanges.{sideAt, freeMoves}
+use Rattle.kernel_free_moves.specs.InRange.{facts, most-points, side-within, gradient-read, equationAt, equation-is, force-ok}
+use Rattle.kernel_free_moves.proofs.free_moves.Statement.{statement}
+use Rattle.kernel_free_moves.proofs.free_moves.Tie as tie
+use Rattle.kernel_free_moves.proofs.free_moves.Reads as reads
+use Rattle.kernel_free_moves.proofs.free_moves.Lts as lts
+use Rattle.kernel_free_moves.proofs.force_at.Reads as force-at-reads
 use Rattle.kernel_point.proofs.point_equation.Reads as point-equation-reads
 use Rattle.kernel_point.proofs.point_move.Reads as point-move-reads
 
