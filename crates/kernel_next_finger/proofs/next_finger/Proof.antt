@@ -6,10 +6,10 @@ use Rattle.integers.specs.Bits.{narrow-fits, narrow-is}
 use Rattle.integers.specs.Size.{fits}
 use Rattle.model.specs.Ranges.{displacementOk, contactOk}
 use Rattle.laws.specs.Sizes.{inside-within}
-use Rattle.kernel_next.proofs.next_finger.Statement.{statement}
-use Rattle.kernel_next.proofs.next_finger.Tie as tie
-use Rattle.kernel_next.proofs.next_finger.Reads as reads
-use Rattle.kernel_next.proofs.next_finger.Lts as lts
+use Rattle.kernel_next_finger.proofs.next_finger.Statement.{statement}
+use Rattle.kernel_next_finger.proofs.next_finger.Tie as tie
+use Rattle.kernel_next_finger.proofs.next_finger.Reads as reads
+use Rattle.kernel_next_finger.proofs.next_finger.Lts as lts
 
 module _ (c : lts.Start reads.Pre reads.Post) where
   height-fits : SFits w32 (c .args .height)

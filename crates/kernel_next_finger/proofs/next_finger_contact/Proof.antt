@@ -3,10 +3,10 @@ use mathlib.Core.List.{[], _∷_}
 use Prim.Native.Nat.{_^_, pred}
 use mir.Syntax.{w32, w64}
 use Rattle.integers.specs.Machine.{Code, var, _⊞_, _⊟_, _⊠_, cast, Env, ∅, _▹_, _▸_, result, answer}
-use Rattle.kernel_next.proofs.next_finger_contact.Statement.{statement}
-use Rattle.kernel_next.proofs.next_finger_contact.Tie as tie
-use Rattle.kernel_next.proofs.next_finger_contact.Reads as reads
-use Rattle.kernel_next.proofs.next_finger_contact.Lts as lts
+use Rattle.kernel_next_finger.proofs.next_finger_contact.Statement.{statement}
+use Rattle.kernel_next_finger.proofs.next_finger_contact.Tie as tie
+use Rattle.kernel_next_finger.proofs.next_finger_contact.Reads as reads
+use Rattle.kernel_next_finger.proofs.next_finger_contact.Lts as lts
 
 abbrev body : Code
 body = cast w32 (var 0) ⊞ var 1 ⊠ (var 2 ⊟ var 3)
