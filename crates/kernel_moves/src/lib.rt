@@ -1,61 +1,24 @@
 // 01, 'One step': the moves of a step, δ of each point and δw of the finger.
 ghost use mathlib.Core.Path.{_≡_};
-ghost use mathlib.Core.Bool.{cond};
-ghost use lib.Dec.{T, eqb};
-ghost use lib.IntN.{pos};
+ghost use lib.Dec.{T};
 ghost use lib.ListN.{length, take};
 ghost use Rattle.integers.specs.Size.{_within_};
 ghost use Rattle.laws.specs.Sizes.{Bounded};
 ghost use Rattle.model.specs.Ranges.{forceOk};
-ghost use Rattle.model.specs.Setup.{p, e, points};
+ghost use Rattle.model.specs.Setup.{p, points};
 ghost use Rattle.model.specs.Step as Steps;
 ghost use Rattle.model.specs.Step.{factor, fingerSystem};
-ghost use Rattle.kernel_rounding.specs.Systems.{rounded, FingerRanges};
-ghost use Rattle.kernel_string.specs.Weighted as Weights;
-ghost use Rattle.kernel_string.specs.Weighted.{placed};
-ghost use Rattle.kernel_moves.specs.MoveRanges.{MoveRanges, sideAt, freeMoves};
-use kernel_rounding::system::finger_moves;
-use kernel_string::differences::weighted;
-use kernel_string::point::point_equation;
-use kernel_string::point::point_move;
+ghost use Rattle.kernel_system.specs.Systems.{rounded, FingerRanges};
+ghost use Rattle.kernel_differences.specs.Weighted as Weights;
+ghost use Rattle.kernel_differences.specs.Weighted.{placed};
+ghost use Rattle.kernel_free_moves.specs.MoveRanges.{MoveRanges, sideAt};
+use kernel_differences::weighted;
+use kernel_free_moves::force_at;
+use kernel_free_moves::free_moves;
+use kernel_point::point_equation;
+use kernel_system::finger_moves;
 use model::Finger;
 use model::Setup;
-
-// The pluck force at a place: it acts at e alone.
-fn force_at(setup: Setup, pluck: i32, place: usize) -> i32
-    ensures { λ r. ⌜ r ≡ cond (eqb place (e setup)) pluck (pos 0) ⌝ }
-{
-    if place == setup.pluck_place as usize {
-        pluck
-    } else {
-        0
-    }
-}
-
-// The moves of all points, were there no finger, at the front of `out`. `weights` is the weighted string.
-fn free_moves(
-    setup: Setup,
-    weights: &[i64; 129],
-    newer: &[i32],
-    older: &[i32],
-    contact: &[i32],
-    gradients: &[i64; 127],
-    pluck: i32,
-    out: &mut [i64; 127],
-)
-    requires { ⌜ MoveRanges setup (now newer) (now older) (now contact) pluck
-        × (now weights ≡ placed (Weights.weighted setup (now newer) (now older)))
-        × (length (now gradients) ≡ 127) × Bounded (take (points setup) (now gradients)) 255 × (length (now out) ≡ 127) ⌝ }
-    ensures { λ r. ⌜ (length (now (out .exit)) ≡ 127) × (take (points setup) (now (out .exit))
-        ≡ freeMoves setup (now (newer .entry)) (now (older .entry)) (now (contact .entry)) pluck (take (points setup) (now (gradients .entry)))) ⌝ }
-{
-    for i in 0..newer.len() {
-        let force = force_at(setup, pluck, i + 1);
-        let gradient = gradients[i];
-        let equation = point_equation(setup, weights, newer, older, contact, gradient, force, i);
-        out[i] = point_move(equation);
-    }
-}
 
 // δ at p and δw: the finger's two-by-two system, solved. `own` is the gradient of the point at p, `gradient` the finger's.
 fn moves_at_finger(

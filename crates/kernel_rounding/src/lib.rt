@@ -1,6 +1,4 @@
 // 01, 'One step': rounding is to the nearest whole number, a tie to the greater.
-pub mod system;
-
 ghost use mathlib.Core.Path.{_≡_};
 ghost use Prim.Native.Nat.{_^_};
 ghost use lib.IntN.{pos};

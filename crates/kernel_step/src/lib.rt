@@ -9,9 +9,9 @@ use kernel_gradients::finger_gradient;
 use kernel_gradients::point_gradients;
 use kernel_moves::moves;
 use kernel_next::next_contact;
-use kernel_next::next_finger_contact;
-use kernel_next::next_height;
 use kernel_next::next_string;
+use kernel_next_finger::next_finger_contact;
+use kernel_next_finger::next_height;
 use model::Finger;
 use model::Setup;
 

@@ -20,16 +20,16 @@ use Rattle.model.specs.System.{rounded₁, rounded₂}
 use Rattle.model.specs.Step as Steps
 use Rattle.model.specs.Step.{A, c, system, factor, fingerSystem}
 use Rattle.model.specs.declared.Setup.{Setup}
-use Rattle.kernel_rounding.specs.Systems.{rounded}
-use Rattle.kernel_moves.specs.MoveRanges.{sideAt, freeMoves}
-use Rattle.kernel_moves.proofs.InRange.{facts, most-points, gradient-read}
+use Rattle.kernel_system.specs.Systems.{rounded}
+use Rattle.kernel_free_moves.specs.MoveRanges.{sideAt, freeMoves}
+use Rattle.kernel_free_moves.specs.InRange.{facts, most-points, gradient-read}
 use Rattle.kernel_moves.proofs.moves.Statement.{statement}
 use Rattle.kernel_moves.proofs.moves.Tie as tie
 use Rattle.kernel_moves.proofs.moves.Reads as reads
 use Rattle.kernel_moves.proofs.moves.Lts as lts
-use Rattle.kernel_moves.proofs.free_moves.Reads as free-moves-reads
+use Rattle.kernel_free_moves.proofs.free_moves.Reads as free-moves-reads
 use Rattle.kernel_moves.proofs.moves_at_finger.Reads as moves-at-finger-reads
-use Rattle.kernel_string.proofs.differences.weighted.Reads as weighted-reads
+use Rattle.kernel_differences.proofs.weighted.Reads as weighted-reads
 
 abbrev Learnt : lts.Claims
 Learnt = (weighted-reads.Asked, weighted-reads.Learnt, free-moves-reads.Asked, free-moves-reads.Learnt, moves-at-finger-reads.Asked, moves-at-finger-reads.Learnt)

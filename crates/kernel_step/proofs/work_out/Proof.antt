@@ -31,9 +31,9 @@ use Rattle.kernel_gradients.proofs.finger_gradient.Reads as finger-gradient-rea
 use Rattle.kernel_gradients.proofs.point_gradients.Reads as point-gradients-reads
 use Rattle.kernel_moves.proofs.moves.Reads as moves-reads
 use Rattle.kernel_next.proofs.next_contact.Reads as next-contact-reads
-use Rattle.kernel_next.proofs.next_finger_contact.Reads as next-finger-contact-reads
-use Rattle.kernel_next.proofs.next_height.Reads as next-height-reads
 use Rattle.kernel_next.proofs.next_string.Reads as next-string-reads
+use Rattle.kernel_next_finger.proofs.next_finger_contact.Reads as next-finger-contact-reads
+use Rattle.kernel_next_finger.proofs.next_height.Reads as next-height-reads
 
 abbrev Learnt : lts.Claims
 Learnt = (

@@ -34,8 +34,8 @@ use Rattle.voice_advance.proofs.advance.Statement.{statement}
 use Rattle.voice_advance.proofs.advance.Tie as tie
 use Rattle.voice_advance.proofs.advance.Reads as reads
 use Rattle.voice_advance.proofs.advance.Lts as lts
-use Rattle.kernel_next.proofs.next_finger.Reads as next-finger-reads
 use Rattle.kernel_next.proofs.write.Reads as write-reads
+use Rattle.kernel_next_finger.proofs.next_finger.Reads as next-finger-reads
 use Rattle.kernel_samples.proofs.pickup_frame.Reads as pickup-frame-reads
 use Rattle.kernel_step.proofs.work_out.Reads as work-out-reads
 use Rattle.voice_rows.proofs.forces_ok.Reads as forces-ok-reads

@@ -1,2 +1,0 @@
--- What the proofs of the moves share.
-mod InRange

@@ -1,0 +1,27 @@
+-- `next_finger` meets its contract: numbers that have been judged keep their value in 32 bits.
+use mir.Syntax.{w32, w64}
+use mir.Val.{SFits}
+use mir.Facts.{toZ-ofZ}
+use Rattle.integers.specs.Bits.{narrow-fits, narrow-is}
+use Rattle.integers.specs.Size.{fits}
+use Rattle.model.specs.Ranges.{displacementOk, contactOk}
+use Rattle.laws.specs.Sizes.{inside-within}
+use Rattle.kernel_next_finger.proofs.next_finger.Statement.{statement}
+use Rattle.kernel_next_finger.proofs.next_finger.Tie as tie
+use Rattle.kernel_next_finger.proofs.next_finger.Reads as reads
+use Rattle.kernel_next_finger.proofs.next_finger.Lts as lts
+
+module _ (c : lts.Start reads.Pre reads.Post) where
+  height-fits : SFits w32 (c .args .height)
+  unfolding displacementOk
+  height-fits = fits (inside-within 1048576 (c .args .height) (c .pre .0)) tt
+
+  contact-fits : SFits w32 (c .args .contact)
+  unfolding contactOk
+  contact-fits = fits (inside-within 67108864 (c .args .contact) (c .pre .1)) tt
+
+returns : tie.Need-returns
+returns c = λ i. record { newer = narrow-is w64 tt (height-fits c) i; older = toZ-ofZ (c .fits .newer) i; contact = narrow-is w64 tt (contact-fits c) i }
+
+pub next-finger-spec : {M : Type 1} → statement M
+next-finger-spec = tie.close (tie.spec (λ c. narrow-fits w64 tt (height-fits c)) (λ c. narrow-fits w64 tt (contact-fits c)) returns)

@@ -1,0 +1,45 @@
+-- `point::point_move` meets its contract: both sides of the division are scaled alike.
+use mathlib.Core.Path.{sym, _∙_, ap₂, subst}
+use mathlib.Core.List.{[], _∷_}
+use Prim.Native.Nat.{_^_}
+use lib.IntN.{pos}
+use lib.Signed.{_<ℤ_, ltZ-yes}
+use mir.Syntax.{w64}
+use mir.Facts.{toZ-ofZ}
+use Rattle.integers.specs.Order.{times-positive}
+use Rattle.integers.specs.Size.{wide}
+use Rattle.integers.specs.Machine.{Code, var, ♯_, _⊠_, Within, ∅, _▹_, fits, result, held-within}
+use Rattle.model.specs.Rounding.{nearest}
+use Rattle.laws.specs.Nearest.{nearest-scaled}
+use Rattle.kernel_point.proofs.point_move.Statement.{statement}
+use Rattle.kernel_point.proofs.point_move.Tie as tie
+use Rattle.kernel_point.proofs.point_move.Reads as reads
+use Rattle.kernel_point.proofs.point_move.Lts as lts
+use Rattle.kernel_rounding.proofs.nearest.Reads as nearest-reads
+
+abbrev side : Code
+side = ♯ 1048576 ⊠ var 0
+
+abbrev factor : Code
+factor = ♯ 1048576 ⊠ var 1
+
+abbrev Learnt : lts.Claims
+Learnt = (nearest-reads.Asked, nearest-reads.Learnt)
+
+ρ : (c : lts.Start Learnt reads.Pre reads.Post) → (let q = c .args .equation in Within (q .side ∷ q .factor ∷ []) (2 ^ 37 ∷ 73217 ∷ []))
+ρ c = c .pre .2 ▹ c .pre .1 ▹ ∅
+
+nearest-requires : tie.Need-nearest-requires
+nearest-requires c κs =
+    let a = c .before .before in
+    (subst (λ z. pos 0 <ℤ z) (sym (result (ρ a) w64 factor tt)) (times-positive {a = pos 1048576} (ltZ-yes tt) (a .pre .0)), wide (held-within (ρ a) w64 side tt) tt, wide (held-within (ρ a) w64 factor tt) tt)
+
+returns : tie.Need-returns
+returns c =
+    let a = c .before .before .before in
+    toZ-ofZ (record { sfits = c .nearest .ok })
+    ∙ c .nearest .ensures ∙ ap₂ nearest (result (ρ a) w64 side tt) (result (ρ a) w64 factor tt)
+    ∙ nearest-scaled (pos 1048576) (a .args .equation .side) (ltZ-yes tt) (a .pre .0)
+
+pub point-move-spec : {M : Type 1} → statement M
+point-move-spec = tie.close (tie.spec (λ c. fits (ρ (c .before .before)) w64 side tt) (λ c. fits (ρ (c .before .before)) w64 factor tt) nearest-requires returns)

@@ -1,0 +1,21 @@
+-- `point::point_side` meets its contract.
+use mathlib.Core.List.{[], _∷_}
+use mir.Syntax.{w32, w64}
+use Rattle.integers.specs.Machine.{Code, var, ♯_, _⊞_, _⊠_, cast, Within, result, answer}
+use Rattle.kernel_differences.specs.Weighted.{sideSizes}
+use Rattle.kernel_point.proofs.point_side.Statement.{statement}
+use Rattle.kernel_point.proofs.point_side.Tie as tie
+use Rattle.kernel_point.proofs.point_side.Reads as reads
+use Rattle.kernel_point.proofs.point_side.Lts as lts
+
+abbrev body : Code
+body = ♯ 8192 ⊠ var 1 ⊞ var 0 ⊞ ♯ 2 ⊠ var 2 ⊠ cast w32 (var 3) ⊞ cast w32 (var 4)
+
+ρ : (c : lts.Start reads.Pre reads.Post) → (let a = c .args in Within (a .terms ∷ a .change ∷ a .gradient ∷ a .contact ∷ a .force ∷ []) sideSizes)
+ρ c = c .pre
+
+returns : tie.Need-returns
+returns c = result (ρ c) w64 body tt
+
+pub point-side-spec : {M : Type 1} → statement M
+point-side-spec = tie.close (answer ρ w64 body tt tie.spec returns)

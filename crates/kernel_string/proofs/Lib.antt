@@ -1,2 +1,0 @@
--- Lemmas of several functions' proofs.
-pub mod InRange

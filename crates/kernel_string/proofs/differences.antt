@@ -1,2 +1,0 @@
--- Lemmas on the weighted string.
-pub mod Linear

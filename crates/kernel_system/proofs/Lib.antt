@@ -1,0 +1,2 @@
+-- Lemmas on two-by-two systems.
+mod Same
