@@ -7,9 +7,9 @@ use lib.Dec.{eqb}
 use lib.ListN.{length}
 use Rattle.integers.specs.Scan.{Scanned}
 use Rattle.model.specs.Ranges.{any}
-use Rattle.voice_neck.proofs.Scan.{none, more-any, over-any}
-use Rattle.voice_neck.proofs.frets.fret_at.Statement.{statement}
-use Rattle.voice_neck.proofs.frets.fret_at.Tie as tie
+use Rattle.voice_frets.specs.Scan.{none, more-any, over-any}
+use Rattle.voice_laying.proofs.fret_at.Statement.{statement}
+use Rattle.voice_laying.proofs.fret_at.Tie as tie
 
 abbrev Inv-loop : tie.InvT-loop
 Inv-loop frets place found₀ i₀ i-end found i = Scanned _||_ (any (eqb place)) frets found i

@@ -1,7 +1,7 @@
--- `frets::frets_wrong` meets its contract.
+-- `frets_wrong` meets its contract.
 use mathlib.Core.Path.{refl}
-use Rattle.voice_neck.proofs.frets.frets_wrong.Statement.{statement}
-use Rattle.voice_neck.proofs.frets.frets_wrong.Tie as tie
+use Rattle.voice_frets.proofs.frets_wrong.Statement.{statement}
+use Rattle.voice_frets.proofs.frets_wrong.Tie as tie
 
 returns : tie.Need-returns
 returns c = rw (← c .before .places-ok .ensures, ← c .increasing .ensures) refl

@@ -1,8 +1,8 @@
-// The frets of a neck: whether the list and the tip are wrong, and whether a fret stands at a place.
+// 01, 'Laying the neck': whether the list of frets or their tip is wrong, 8 and 9.
 ghost use mathlib.Core.Path.{_≡_};
 ghost use lib.Dec.{T};
 ghost use lib.ListN.{length};
-ghost use Rattle.model.specs.Neck.{fretAt, fretsWrong, tipWrong};
+ghost use Rattle.model.specs.Neck.{fretsWrong, tipWrong};
 ghost use Rattle.model.specs.Ranges.{all, between};
 use kernel_ranges::increasing;
 use kernel_ranges::places_ok;
@@ -28,15 +28,4 @@ pub fn tip_wrong(board: &[i32], frets: &[u32], tip: i32) -> bool
         wrong |= (0 < tip) | (tip < board[place - 1]);
     }
     wrong
-}
-
-// A fret stands at the place.
-pub fn fret_at(frets: &[u32], place: usize) -> bool
-    ensures { λ r. ⌜ r ≡ fretAt (now (frets .entry)) place ⌝ }
-{
-    let mut found = false;
-    for i in 0..frets.len() {
-        found |= place == frets[i] as usize;
-    }
-    found
 }

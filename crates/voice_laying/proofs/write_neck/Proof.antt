@@ -14,11 +14,11 @@ use mir.Facts.{toZ-ofZ}
 use Rattle.integers.specs.Filled.{Filled, filled-none, filled-more, filled-all}
 use Rattle.model.specs.Differences.{at}
 use Rattle.model.specs.Neck.{fretAt, laid}
-use Rattle.voice_neck.proofs.write_neck.Statement.{statement}
-use Rattle.voice_neck.proofs.write_neck.Tie as tie
-use Rattle.voice_neck.proofs.write_neck.Reads as reads
-use Rattle.voice_neck.proofs.write_neck.Lts as lts
-use Rattle.voice_neck.proofs.frets.fret_at.Reads as fret-at-reads
+use Rattle.voice_laying.proofs.write_neck.Statement.{statement}
+use Rattle.voice_laying.proofs.write_neck.Tie as tie
+use Rattle.voice_laying.proofs.write_neck.Reads as reads
+use Rattle.voice_laying.proofs.write_neck.Lts as lts
+use Rattle.voice_laying.proofs.fret_at.Reads as fret-at-reads
 
 -- what stands at a point, by the fret list: `fret` where a fret stands, the board's otherwise
 abbrev chosen : {A : Type 0} → List ℕ → A → (ℕ → A) → ℕ → A

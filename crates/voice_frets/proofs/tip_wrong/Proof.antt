@@ -17,11 +17,11 @@ use Rattle.model.specs.Differences.{at}
 use Rattle.model.specs.Ranges.{any, between}
 use Rattle.laws.specs.Refusals.{all-entry}
 use Rattle.laws.specs.Strings.{at-index}
-use Rattle.voice_neck.proofs.Scan.{none, more-any, over-any}
-use Rattle.voice_neck.proofs.frets.tip_wrong.Statement.{statement}
-use Rattle.voice_neck.proofs.frets.tip_wrong.Tie as tie
-use Rattle.voice_neck.proofs.frets.tip_wrong.Reads as reads
-use Rattle.voice_neck.proofs.frets.tip_wrong.Lts as lts
+use Rattle.voice_frets.specs.Scan.{none, more-any, over-any}
+use Rattle.voice_frets.proofs.tip_wrong.Statement.{statement}
+use Rattle.voice_frets.proofs.tip_wrong.Tie as tie
+use Rattle.voice_frets.proofs.tip_wrong.Reads as reads
+use Rattle.voice_frets.proofs.tip_wrong.Lts as lts
 
 -- the tip is wrong at this place
 abbrev wrongAt : ℤ → List ℤ → ℕ → Bool
