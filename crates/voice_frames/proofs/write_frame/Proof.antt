@@ -2,8 +2,8 @@
 use borrow.Author.Needs.{needs}
 use lib.ListN.{length-set}
 use Rattle.laws.specs.Playing.{frame-stored}
-use Rattle.voice_play.proofs.write_frame.Statement.{statement}
-use Rattle.voice_play.proofs.write_frame.Tie as tie
+use Rattle.voice_frames.proofs.write_frame.Statement.{statement}
+use Rattle.voice_frames.proofs.write_frame.Tie as tie
 
 returns : tie.Need-returns
 returns c = frame-stored (c .args .frame) (c .args .at) (c .args .samples .now) (c .pre)
