@@ -10,13 +10,13 @@ use Rattle.model.specs.State.{Lent, stateOf, Neck}
 use Rattle.model.specs.declared.Setup.{Setup}
 use Rattle.laws.specs.Call.{lentWith, bufferRows, buffers-refused, buffers-reached}
 use Rattle.laws.specs.Refusals.{Reached, row-passed, row-holds}
-use Rattle.voice_block.proofs.block_refusal.Statement.{statement}
-use Rattle.voice_block.proofs.block_refusal.Tie as tie
-use Rattle.voice_block.proofs.block_refusal.Reads as reads
-use Rattle.voice_block.proofs.block_refusal.Lts as lts
+use Rattle.voice_block_arguments.proofs.block_refusal.Statement.{statement}
+use Rattle.voice_block_arguments.proofs.block_refusal.Tie as tie
+use Rattle.voice_block_arguments.proofs.block_refusal.Reads as reads
+use Rattle.voice_block_arguments.proofs.block_refusal.Lts as lts
 use Rattle.voice_arguments.proofs.buffers_refusal.Reads as buffers-refusal-reads
 use Rattle.voice_arguments.proofs.state_refusal.Reads as state-refusal-reads
-use Rattle.voice_block.proofs.counts_wrong.Reads as counts-wrong-reads
+use Rattle.voice_block_arguments.proofs.counts_wrong.Reads as counts-wrong-reads
 
 abbrev Learnt : lts.Claims
 Learnt = (
