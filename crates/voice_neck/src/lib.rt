@@ -5,10 +5,10 @@ ghost use Rattle.model.specs.Neck.{lay};
 use kernel_ranges::heights_ok;
 use model::NeckAnswer;
 use model::Setup;
+use voice_buffers::three_lengths_ok;
 use voice_frets::frets_wrong;
 use voice_frets::tip_wrong;
 use voice_laying::write_neck;
-use voice_setup::buffers::three_lengths_ok;
 use voice_setup::setup_refusal;
 
 // Lays the neck into the two lent buffers, heights and stiffness, or answers the number and leaves them.

@@ -1,6 +1,4 @@
 // 01, 'Setup': the eleven numbers of a setup are examined, and the setup is accepted or refused with 1 to 5. One function for each row of the table.
-pub mod buffers;
-
 ghost use mathlib.Core.Path.{_≡_};
 ghost use Prim.Native.Nat.{_+_, _*_, _≤_};
 ghost use lib.Dec.{ltb};

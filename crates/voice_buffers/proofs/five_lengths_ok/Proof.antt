@@ -1,8 +1,8 @@
 -- Two buffers, and the other three.
 use mathlib.Core.Path.{ap₂}
 use mathlib.Core.Bool.{_&&_}
-use Rattle.voice_setup.proofs.buffers.five_lengths_ok.Statement.{statement}
-use Rattle.voice_setup.proofs.buffers.five_lengths_ok.Tie as tie
+use Rattle.voice_buffers.proofs.five_lengths_ok.Statement.{statement}
+use Rattle.voice_buffers.proofs.five_lengths_ok.Tie as tie
 
 returns : tie.Need-returns
 returns c = ap₂ _&&_ (c .before .before .length-ok .ensures) (ap₂ _&&_ (c .before .length-ok2 .ensures) (c .three-lengths-ok .ensures))

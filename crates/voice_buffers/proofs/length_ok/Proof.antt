@@ -1,9 +1,9 @@
--- `buffers::length_ok` meets its contract.
+-- `length_ok` meets its contract.
 use mathlib.Core.Path.{refl}
 use borrow.Author.Needs.{needs}
 use Rattle.model.specs.Setup.{lengthOk}
-use Rattle.voice_setup.proofs.buffers.length_ok.Statement.{statement}
-use Rattle.voice_setup.proofs.buffers.length_ok.Tie as tie
+use Rattle.voice_buffers.proofs.length_ok.Statement.{statement}
+use Rattle.voice_buffers.proofs.length_ok.Tie as tie
 
 returns : tie.Need-returns
 unfolding lengthOk
