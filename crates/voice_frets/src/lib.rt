@@ -4,8 +4,8 @@ ghost use lib.Dec.{T};
 ghost use lib.ListN.{length};
 ghost use Rattle.model.specs.Neck.{fretsWrong, tipWrong};
 ghost use Rattle.model.specs.Ranges.{all, between};
-use kernel_ranges::increasing;
-use kernel_ranges::places_ok;
+use kernel_places::increasing;
+use kernel_places::places_ok;
 use model::Setup;
 
 // 8: more than 24 frets, a fret place out of range or not increasing.

@@ -8,7 +8,7 @@ ghost use Rattle.model.specs.Ranges.{all};
 ghost use Rattle.model.specs.Refusal.{firstOf};
 ghost use Rattle.model.specs.Setup.{placeOk, coefficientWrong, ownPlaces, setupRules};
 ghost use Rattle.model.specs.Setup as Setups;
-use kernel_ranges::place_ok;
+use kernel_places::place_ok;
 use model::Setup;
 use model::SetupAnswer;
 

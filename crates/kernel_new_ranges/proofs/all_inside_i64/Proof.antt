@@ -7,9 +7,9 @@ use borrow.Author.Needs.{sfits-of}
 use mir.Syntax.{w64}
 use Rattle.integers.specs.Scan.{Scanned}
 use Rattle.model.specs.Ranges.{all}
-use Rattle.kernel_ranges.proofs.Scan.{none, insideBits, more-inside, over-inside}
-use Rattle.kernel_ranges.proofs.all_inside_i64.Statement.{statement}
-use Rattle.kernel_ranges.proofs.all_inside_i64.Tie as tie
+use Rattle.kernel_ranges.specs.Scan.{none, insideBits, more-inside, over-inside}
+use Rattle.kernel_new_ranges.proofs.all_inside_i64.Statement.{statement}
+use Rattle.kernel_new_ranges.proofs.all_inside_i64.Tie as tie
 
 abbrev Inv-loop : tie.InvT-loop
 Inv-loop numbers low high ok₀ i₀ i-end ok i = Scanned _&&_ (all (insideBits w64 low high)) numbers ok i

@@ -1,7 +1,7 @@
 -- The ends given are those of `displacementOk`.
 use Rattle.model.specs.Ranges.{displacementOk}
-use Rattle.kernel_ranges.proofs.new_displacements_ok.Statement.{statement}
-use Rattle.kernel_ranges.proofs.new_displacements_ok.Tie as tie
+use Rattle.kernel_new_ranges.proofs.new_displacements_ok.Statement.{statement}
+use Rattle.kernel_new_ranges.proofs.new_displacements_ok.Tie as tie
 
 returns : tie.Need-returns
 unfolding displacementOk

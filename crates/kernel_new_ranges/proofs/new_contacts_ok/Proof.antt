@@ -1,7 +1,7 @@
 -- The ends given are those of `contactOk`.
 use Rattle.model.specs.Ranges.{contactOk}
-use Rattle.kernel_ranges.proofs.new_contacts_ok.Statement.{statement}
-use Rattle.kernel_ranges.proofs.new_contacts_ok.Tie as tie
+use Rattle.kernel_new_ranges.proofs.new_contacts_ok.Statement.{statement}
+use Rattle.kernel_new_ranges.proofs.new_contacts_ok.Tie as tie
 
 returns : tie.Need-returns
 unfolding contactOk

@@ -6,8 +6,8 @@ use native.Mathlib.Omega.{arith}
 use lib.Dec.{leb, ltb, leb·suc-zero, leb·suc-suc}
 use Rattle.model.specs.Ranges.{between}
 use Rattle.model.specs.Setup.{placeOk}
-use Rattle.kernel_ranges.proofs.place_ok.Statement.{statement}
-use Rattle.kernel_ranges.proofs.place_ok.Tie as tie
+use Rattle.kernel_places.proofs.place_ok.Statement.{statement}
+use Rattle.kernel_places.proofs.place_ok.Tie as tie
 
 last : (i n : ℕ) → (leb 1 i && ltb i n) ≡ between 1 i (n - 1)
 unfolding between

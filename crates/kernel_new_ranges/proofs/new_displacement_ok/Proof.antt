@@ -1,8 +1,8 @@
 -- The ends given are those of `displacementOk`.
 use mir.Facts.{toZ-ofZ}
 use Rattle.model.specs.Ranges.{displacementOk}
-use Rattle.kernel_ranges.proofs.new_displacement_ok.Statement.{statement}
-use Rattle.kernel_ranges.proofs.new_displacement_ok.Tie as tie
+use Rattle.kernel_new_ranges.proofs.new_displacement_ok.Statement.{statement}
+use Rattle.kernel_new_ranges.proofs.new_displacement_ok.Tie as tie
 
 returns : tie.Need-returns
 unfolding displacementOk

@@ -10,9 +10,9 @@ use lib.ListN.{length, getD, drop, length-drop}
 use lib.Seq.{drop-cons}
 use Rattle.integers.specs.Scan.{Scanned, more, over}
 use Rattle.model.specs.Neck.{increasing}
-use Rattle.kernel_ranges.proofs.Scan.{none}
-use Rattle.kernel_ranges.proofs.increasing.Statement.{statement}
-use Rattle.kernel_ranges.proofs.increasing.Tie as tie
+use Rattle.kernel_ranges.specs.Scan.{none}
+use Rattle.kernel_places.proofs.increasing.Statement.{statement}
+use Rattle.kernel_places.proofs.increasing.Tie as tie
 
 module _ (xs : List ℕ) (i : ℕ) where
   -- a pair of neighbours more

@@ -6,9 +6,9 @@ use lib.ListN.{length}
 use Rattle.integers.specs.Scan.{Scanned}
 use Rattle.model.specs.Ranges.{all}
 use Rattle.model.specs.Setup.{placeOk}
-use Rattle.kernel_ranges.proofs.Scan.{none, more-all, over-all}
-use Rattle.kernel_ranges.proofs.places_ok.Statement.{statement}
-use Rattle.kernel_ranges.proofs.places_ok.Tie as tie
+use Rattle.kernel_ranges.specs.Scan.{none, more-all, over-all}
+use Rattle.kernel_places.proofs.places_ok.Statement.{statement}
+use Rattle.kernel_places.proofs.places_ok.Tie as tie
 
 abbrev Inv-loop : tie.InvT-loop
 Inv-loop setup frets ok₀ i₀ i-end ok i = Scanned _&&_ (all (placeOk setup)) frets ok i

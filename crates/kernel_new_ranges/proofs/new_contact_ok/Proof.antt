@@ -1,8 +1,8 @@
 -- The ends given are those of `contactOk`.
 use mir.Facts.{toZ-ofZ}
 use Rattle.model.specs.Ranges.{contactOk}
-use Rattle.kernel_ranges.proofs.new_contact_ok.Statement.{statement}
-use Rattle.kernel_ranges.proofs.new_contact_ok.Tie as tie
+use Rattle.kernel_new_ranges.proofs.new_contact_ok.Statement.{statement}
+use Rattle.kernel_new_ranges.proofs.new_contact_ok.Tie as tie
 
 returns : tie.Need-returns
 unfolding contactOk

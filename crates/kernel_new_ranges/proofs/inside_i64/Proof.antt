@@ -1,8 +1,8 @@
 -- The two comparisons read the numbers back from their bits.
 use mir.Facts.{toZ-ofZ}
 use Rattle.model.specs.Ranges.{inside}
-use Rattle.kernel_ranges.proofs.inside_i64.Statement.{statement}
-use Rattle.kernel_ranges.proofs.inside_i64.Tie as tie
+use Rattle.kernel_new_ranges.proofs.inside_i64.Statement.{statement}
+use Rattle.kernel_new_ranges.proofs.inside_i64.Tie as tie
 
 returns : tie.Need-returns
 unfolding inside
