@@ -9,8 +9,8 @@ ghost use Rattle.model.specs.declared.Finger as Fingers;
 use kernel_ranges::heights_ok;
 use model::Finger;
 use model::Setup;
+use voice_buffers::five_lengths_ok;
 use voice_rows::state_ok;
-use voice_setup::buffers::five_lengths_ok;
 use voice_setup::setup_refusal;
 
 // 1 to 5 and 6, or 0.

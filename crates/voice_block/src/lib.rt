@@ -1,49 +1,13 @@
-// 01, 'Playing a block': a block, whose arguments are all examined, in the order of its table of refusals.
+// 01, 'Playing a block': a block, whose arguments are all examined.
 ghost use mathlib.Core.Path.{_≡_};
-ghost use Prim.Native.Nat.{ℕ};
 ghost use Rattle.model.specs.Answers.{blockResult};
-ghost use Rattle.model.specs.Block.{countsWrong, blockRules, block};
-ghost use Rattle.model.specs.Refusal.{firstOf};
+ghost use Rattle.model.specs.Block.{block};
 use kernel_contact::roots::root_table;
 use model::BlockAnswer;
 use model::Finger;
 use model::Setup;
-use voice_arguments::buffers_refusal;
-use voice_arguments::state_refusal;
+use voice_block_arguments::block_refusal;
 use voice_play::play;
-
-// 15: an odd number of forces, or another number of samples than of forces.
-fn counts_wrong(forces: usize, samples: usize) -> bool
-    ensures { λ r. ⌜ r ≡ countsWrong forces samples ⌝ }
-{
-    (forces % 2 == 1) | (samples != forces)
-}
-
-// The refusal of a block, or 0, whatever the turn.
-fn block_refusal(
-    setup: Setup,
-    heights: &[i32],
-    stiffness: &[u16],
-    first: &[i32],
-    second: &[i32],
-    contact: &[i32],
-    finger: Finger,
-    forces: &[i32],
-    samples: &[f32],
-) -> u32
-    ensures { λ r. ⌜ ((turn : ℕ) → r ≡ firstOf (blockRules setup (record { heights = now (heights .entry); stiffness = now (stiffness .entry) })
-        (record { first = now (first .entry); second = now (second .entry); contact = now (contact .entry); turn = turn; finger = finger })
-        (now (forces .entry)) (now (samples .entry)))) ⌝ }
-{
-    let refusal = buffers_refusal(setup, heights, stiffness, first, second, contact);
-    if refusal != 0 {
-        return refusal;
-    }
-    if counts_wrong(forces.len(), samples.len()) {
-        return 15;
-    }
-    state_refusal(heights, first, second, contact, finger)
-}
 
 // Plays a block: makes steps until the forces, pluck and finger in turn, end or a step is refused, and writes each accepted step's frame, bridge
 // first. Answers the number of steps made, the refusal that stopped it (0 if none did), and the turn and finger after them.

@@ -1,9 +1,7 @@
-// 01, 'Playing a block': the steps of a block whose arguments are examined, and the writing of their frames.
+// 01, 'Playing a block': the steps of a block whose arguments are examined.
 ghost use mathlib.Core.Path.{_≡_};
-ghost use Prim.Native.Nat.{_+_, _≤_};
 ghost use lib.ListN.{length};
 ghost use Rattle.kernel_contact.specs.Table.{rootTable};
-ghost use Rattle.laws.specs.Playing.{withFrame};
 ghost use Rattle.laws.specs.Ready.{Ready};
 ghost use Rattle.model.specs.Answers.{blockResult};
 ghost use Rattle.model.specs.Block as Blocks;
@@ -11,19 +9,10 @@ ghost use Rattle.model.specs.Block.{pairs};
 ghost use Rattle.model.specs.State.{stateOf};
 use model::BlockAnswer;
 use model::Finger;
-use model::Frame;
 use model::Setup;
 use model::StepAnswer;
+use voice_frames::write_frame;
 use voice_turn::step_ready;
-
-// Writes a frame over two samples, bridge first.
-fn write_frame(frame: Frame, samples: &mut [f32], at: usize)
-    requires { ⌜ at + 2 ≤ length (now samples) ⌝ }
-    ensures { λ r. ⌜ now (samples .exit) ≡ withFrame frame at (now (samples .entry)) ⌝ }
-{
-    samples[at] = frame.bridge;
-    samples[at + 1] = frame.neck;
-}
 
 // Steps a voice that is ready, until the forces end or a step is refused.
 pub fn play(

@@ -3,14 +3,14 @@ ghost use mathlib.Core.Path.{_≡_};
 ghost use lib.Dec.{T};
 ghost use Rattle.model.specs.Ranges.{displacementOk, heightOk};
 ghost use Rattle.model.specs.Reading.{readingOf, reading};
+use kernel_places::place_ok;
 use kernel_ranges::displacements_ok;
 use kernel_ranges::heights_ok;
-use kernel_ranges::place_ok;
 use kernel_samples::double;
 use model::Reading;
 use model::Setup;
+use voice_buffers::three_lengths_ok;
 use voice_newest::newest;
-use voice_setup::buffers::three_lengths_ok;
 use voice_setup::setup_refusal;
 
 // What a displacement u over a neck of this height shows: pressed where the depth, height − u, is above 0.

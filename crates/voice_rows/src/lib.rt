@@ -5,15 +5,15 @@ ghost use Prim.Native.Nat.{_≤_};
 ghost use lib.ListN.{length, take};
 ghost use Rattle.model.specs.Ranges.{all, displacementOk, contactOk, forceOk};
 ghost use Rattle.model.specs.Step.{stateOk};
+use kernel_new_ranges::new_contact_ok;
+use kernel_new_ranges::new_contacts_ok;
+use kernel_new_ranges::new_displacement_ok;
+use kernel_new_ranges::new_displacements_ok;
 use kernel_ranges::contact_ok;
 use kernel_ranges::contacts_ok;
 use kernel_ranges::displacement_ok;
 use kernel_ranges::displacements_ok;
 use kernel_ranges::force_ok;
-use kernel_ranges::new_contact_ok;
-use kernel_ranges::new_contacts_ok;
-use kernel_ranges::new_displacement_ok;
-use kernel_ranges::new_displacements_ok;
 use model::Finger;
 
 // 11: the displacements, finger heights and contact variables that are passed in.

@@ -1,6 +1,4 @@
 // 01, 'Setup': the eleven numbers of a setup are examined, and the setup is accepted or refused with 1 to 5. One function for each row of the table.
-pub mod buffers;
-
 ghost use mathlib.Core.Path.{_≡_};
 ghost use Prim.Native.Nat.{_+_, _*_, _≤_};
 ghost use lib.Dec.{ltb};
@@ -10,7 +8,7 @@ ghost use Rattle.model.specs.Ranges.{all};
 ghost use Rattle.model.specs.Refusal.{firstOf};
 ghost use Rattle.model.specs.Setup.{placeOk, coefficientWrong, ownPlaces, setupRules};
 ghost use Rattle.model.specs.Setup as Setups;
-use kernel_ranges::place_ok;
+use kernel_places::place_ok;
 use model::Setup;
 use model::SetupAnswer;
 

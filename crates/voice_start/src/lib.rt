@@ -9,7 +9,7 @@ use model::Finger;
 use model::Setup;
 use model::StartAnswer;
 use model::Started;
-use voice_setup::buffers::three_lengths_ok;
+use voice_buffers::three_lengths_ok;
 use voice_setup::setup_refusal;
 
 // 10: the finger's height lies from 0 to 1,048,576, its older height in the range of displacements.

@@ -7,7 +7,7 @@ use borrow.Author.Needs.{sfits-of}
 use mir.Syntax.{w32}
 use Rattle.integers.specs.Scan.{Scanned}
 use Rattle.model.specs.Ranges.{all}
-use Rattle.kernel_ranges.proofs.Scan.{none, insideBits, more-inside, over-inside}
+use Rattle.kernel_ranges.specs.Scan.{none, insideBits, more-inside, over-inside}
 use Rattle.kernel_ranges.proofs.all_inside_i32.Statement.{statement}
 use Rattle.kernel_ranges.proofs.all_inside_i32.Tie as tie
 

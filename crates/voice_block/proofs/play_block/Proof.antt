@@ -16,7 +16,7 @@ use Rattle.voice_block.proofs.play_block.Tie as tie
 use Rattle.voice_block.proofs.play_block.Reads as reads
 use Rattle.voice_block.proofs.play_block.Lts as lts
 use Rattle.kernel_contact.proofs.roots.root_table.Reads as root-table-reads
-use Rattle.voice_block.proofs.block_refusal.Reads as block-refusal-reads
+use Rattle.voice_block_arguments.proofs.block_refusal.Reads as block-refusal-reads
 use Rattle.voice_play.proofs.play.Reads as play-reads
 
 abbrev Learnt : lts.Claims

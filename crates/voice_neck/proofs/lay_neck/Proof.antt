@@ -24,10 +24,10 @@ use Rattle.voice_neck.proofs.lay_neck.Reads as reads
 use Rattle.voice_neck.proofs.lay_neck.Lts as lts
 use Rattle.kernel_ranges.proofs.heights_ok.Reads as heights-reads
 use Rattle.voice_setup.proofs.setup_refusal.Reads as setup-reads
-use Rattle.voice_setup.proofs.buffers.three_lengths_ok.Reads as lengths-reads
-use Rattle.voice_neck.proofs.frets.frets_wrong.Reads as frets-reads
-use Rattle.voice_neck.proofs.frets.tip_wrong.Reads as tip-reads
-use Rattle.voice_neck.proofs.write_neck.Reads as write-reads
+use Rattle.voice_buffers.proofs.three_lengths_ok.Reads as lengths-reads
+use Rattle.voice_frets.proofs.frets_wrong.Reads as frets-reads
+use Rattle.voice_frets.proofs.tip_wrong.Reads as tip-reads
+use Rattle.voice_laying.proofs.write_neck.Reads as write-reads
 
 abbrev Learnt : lts.Claims
 Learnt = (setup-reads.Asked, setup-reads.Learnt, lengths-reads.Asked, lengths-reads.Learnt, heights-reads.Asked, heights-reads.Learnt, frets-reads.Asked, frets-reads.Learnt, tip-reads.Asked, tip-reads.Learnt, write-reads.Asked, write-reads.Learnt)

@@ -20,7 +20,7 @@ use Rattle.voice_play.proofs.play.Statement.{statement}
 use Rattle.voice_play.proofs.play.Tie as tie
 use Rattle.voice_play.proofs.play.Reads as reads
 use Rattle.voice_play.proofs.play.Lts as lts
-use Rattle.voice_play.proofs.write_frame.Reads as write-frame-reads
+use Rattle.voice_frames.proofs.write_frame.Reads as write-frame-reads
 use Rattle.voice_turn.proofs.step_ready.Reads as step-ready-reads
 
 -- n steps are made: v is what they left, and the samples hold their frames

@@ -1,2 +1,0 @@
--- What the proofs of the fret functions share.
-mod Scan
