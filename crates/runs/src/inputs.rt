@@ -9,6 +9,7 @@ use crate::generator::draw;
 use crate::generator::evenly_or_some;
 use crate::generator::negative;
 use crate::generator::some;
+use crate::room;
 use voice::FingerSetup;
 use voice::NeckAnswer;
 use voice::Setup;
@@ -92,7 +93,7 @@ pub fn neck(
 ) -> u32 {
     let depth = some(x, 524288);
     board(x, depth, lowered);
-    let mut places = [0u32; 24];
+    let mut places = room::frets();
     let spacing = 1 + draw(x, 128);
     let count = frets(x, setup.segments, spacing, &mut places);
     let tip = negative(draw(x, depth + 1));

@@ -8,6 +8,7 @@ mod inputs;
 mod play;
 mod progress;
 mod report;
+mod room;
 
 use progress::Progress;
 use voice::Setup;
@@ -69,7 +70,7 @@ fn part(
     in_block: bool,
     samples: &mut [f32; 128],
 ) -> Progress {
-    let mut forces = [0i32; 128];
+    let mut forces = room::forces();
     inputs::forces(x, &mut forces);
     let played = play::frames(
         setup,
@@ -168,7 +169,7 @@ fn stretches(
     second: &mut [i32],
     contact: &mut [i32],
 ) {
-    let mut samples = [0.0f32; 128];
+    let mut samples = room::samples();
     let mut now = start(x, setup, first, second, contact, progress::none());
     for i in 0..24 {
         now = stretch(
@@ -219,12 +220,12 @@ fn run(seed: u32, segments: u32)
     let mut x = seed;
     let setup = inputs::setup(&mut x, segments);
     let points = segments as usize - 1;
-    let mut board = [0i32; 127];
-    let mut heights = [0i32; 127];
-    let mut stiffness = [0u16; 127];
-    let mut first = [0i32; 127];
-    let mut second = [0i32; 127];
-    let mut contact = [0i32; 127];
+    let mut board = room::points();
+    let mut heights = room::points();
+    let mut stiffness = room::stiffness();
+    let mut first = room::points();
+    let mut second = room::points();
+    let mut contact = room::points();
     run_lent(
         seed,
         setup,

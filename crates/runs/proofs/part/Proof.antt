@@ -17,6 +17,7 @@ part-spec =
     (λ c κs. search needs)
     (λ c κs. search needs)
     (λ c κs. search needs)
+    (λ c κs. search needs)
     same-length
     (λ c. search needs)
     (λ c. search needs)

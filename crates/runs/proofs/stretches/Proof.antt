@@ -21,6 +21,7 @@ stretches-spec =
     μ-loop
     (λ c κs. tt)
     (λ c κs. tt)
+    (λ c κs. tt)
     (λ c. record { of-first = search needs; of-second = search needs; of-contact = search needs })
     (λ c κs. tt)
     (λ c κs. tt)
