@@ -5,6 +5,7 @@ A call is the operation's name, then each argument under its label, as whole num
 
 import struct
 from dataclasses import dataclass
+from pathlib import Path
 
 from string_voice.neck import lay_neck
 from string_voice.playing import newest, play_block, read_place
@@ -20,6 +21,11 @@ class Call:
 
     def line(self):
         return " ".join([self.operation, *(labelled(label, numbers) for label, numbers in self.arguments.items())])
+
+
+def crates_folder(arguments):
+    """Where to write: the folder that a command line names, or the repository's crates/."""
+    return Path(arguments[1]) if len(arguments) > 1 else Path(__file__).resolve().parent.parent / "crates"
 
 
 def labelled(label, numbers):

@@ -1,12 +1,12 @@
-"""Writes crates/cases/stdin, calls at the boundaries of document 01, and crates/cases/stdout, the reference's answers to them.
+"""Writes cases/stdin, calls at the boundaries of document 01, and cases/stdout, the reference's answers to them, into crates/ or a folder named.
 
 Each refusal number of each operation is given just outside its boundary, withheld on it, and beaten by each earlier number of the operation's
 order. The numbers in the tables below are 01's; a call to which the reference answers another number stops the writing.
 """
 
-from pathlib import Path
+import sys
 
-from calls import Call, answer, refusal_of
+from calls import Call, answer, crates_folder, refusal_of
 
 U32 = 4_294_967_295
 N, L, M, S, Z, K, MASS, FINGER, PLUCK, BRIDGE, NECK = range(11)  # the fields of a setup
@@ -308,7 +308,7 @@ def all_calls():
         yield f"block: {number} at a later step", number, Call("block", both(*changes)(GOOD["block"]))
 
 
-def main():
+def main(crates):
     calls, answers, title_before = [], [], None
     for title, number, call in all_calls():
         assert refusal_of(call) == number, f"{title}: {refusal_of(call)} and not {number}: {call.line()}"
@@ -316,10 +316,9 @@ def main():
         calls += [*heading, call.line()]
         answers += [*heading, answer(call)]
         title_before = title
-    folder = Path(__file__).resolve().parent.parent / "crates" / "cases"
-    (folder / "stdin").write_text("\n".join(calls) + "\n")
-    (folder / "stdout").write_text("\n".join(answers) + "\n")
+    (crates / "cases" / "stdin").write_text("\n".join(calls) + "\n")
+    (crates / "cases" / "stdout").write_text("\n".join(answers) + "\n")
 
 
 if __name__ == "__main__":
-    main()
+    main(crates_folder(sys.argv))

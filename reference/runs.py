@@ -1,13 +1,13 @@
-"""Writes crates/runs/stdout: long runs on drawn setups, necks, fingers and forces, played by the reference.
+"""Writes runs/stdout, into crates/ or a folder named: long runs on drawn setups, necks, fingers and forces, played by the reference.
 
 A run is stretches of 256 frames, each of them four parts of 64: a block, single steps, a block, single steps. The checksum of a run takes in every
 refusal, and after each part the turn, the finger, all buffers and all samples.
 """
 
+import sys
 from concurrent.futures import ProcessPoolExecutor
-from pathlib import Path
 
-from calls import single_bits
+from calls import crates_folder, single_bits
 from drawn import Generator, drawn_forces, drawn_heights, drawn_neck, drawn_setup
 from string_voice.neck import lay_neck
 from string_voice.playing import play_block
@@ -111,12 +111,11 @@ def lines_of(number):
     return lines
 
 
-def main():
+def main(crates):
     with ProcessPoolExecutor() as pool:
         lines = [line for run in pool.map(lines_of, range(RUNS)) for line in run]
-    path = Path(__file__).resolve().parent.parent / "crates" / "runs" / "stdout"
-    path.write_text("\n".join(lines) + "\n")
+    (crates / "runs" / "stdout").write_text("\n".join(lines) + "\n")
 
 
 if __name__ == "__main__":
-    main()
+    main(crates_folder(sys.argv))
