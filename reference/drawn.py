@@ -6,10 +6,10 @@ BITS = 0xFFFF_FFFF
 
 
 class Generator:
-    """Holds a number of 32 bits other than 0."""
+    """Holds a number of 32 bits other than 0; the first is spread over them from the seed, which is above 0."""
 
     def __init__(self, seed):
-        self.x = seed
+        self.x = seed * 2_654_435_761 & BITS
 
     def draw(self, n):
         """A number below n."""
@@ -46,13 +46,13 @@ class Generator:
 def drawn_setup(generator, segments):
     """A setup that is accepted, with so many segments."""
     tension = 1 + generator.draw(4096)
-    stiffness = generator.some((4096 - tension) // 4)
+    stiffness = generator.evenly_or_some((4096 - tension) // 4)
     return Setup(
         segments=segments,
         tension=tension,
         stiffness=stiffness,
-        viscous=generator.some((4096 - tension - 4 * stiffness) // 2),
-        plain=generator.some(4096),
+        viscous=generator.evenly_or_some((4096 - tension - 4 * stiffness) // 2),
+        plain=generator.evenly_or_some(4096),
         finger_stiffness=generator.evenly_or_some(65_535),
         finger_mass=1 + generator.evenly_or_some(1_048_575),
         finger_place=1 + generator.draw(segments - 1),
@@ -67,7 +67,7 @@ def drawn_neck(generator, segments):
     depth = generator.some(524_288)
     roughness = generator.some(524_288)
     board = [-(depth + generator.draw(roughness + 1)) for _ in range(1, segments)]
-    spacing = 1 + generator.draw(128)
+    spacing = 1 + generator.draw(32)
     frets = [place for place in range(1, segments) if generator.draw(spacing) == 0][:24]
     tip = -generator.draw(depth + 1)
     board_stiffness = generator.evenly_or_some(65_535)

@@ -16,7 +16,7 @@ from string_voice.setup import check_setup
 from string_voice.step import fresh_start, step
 
 RUNS = 48
-STRETCHES = 24
+STRETCHES = 21
 
 
 class Run:

@@ -63,9 +63,9 @@ def fresh_start(setup, first, second, contact, height, older_height):
     return 0, Finger(height, older_height, 0)
 
 
-def nearest(x):
-    """The whole number nearest a fraction, a tie to the greater: the greatest that is at most x + 1/2."""
-    return (2 * x.numerator + x.denominator) // (2 * x.denominator)
+def nearest(numerator, denominator):
+    """The whole number nearest a fraction, a tie to the greater: the greatest that is at most the fraction and 1/2. The denominator is above 0."""
+    return (2 * numerator + denominator) // (2 * denominator)
 
 
 def solve(matrix, side):
@@ -89,11 +89,12 @@ def work_out(setup, heights, stiffness, state, pluck, finger_force):
     c[setup.pluck_place] += pluck
     finger_side = 2 * m * (finger.newer - finger.older) + finger_force + 2 * g * finger.contact
 
-    moves = [nearest(Fraction(side, factor)) for side, factor in zip(c, A)]
+    moves = [nearest(side, factor) for side, factor in zip(c, A)]
     matrix = ((A[p] + g**2, -(g**2)), (-(g**2), m + g**2))
     at_p, of_finger = solve(matrix, (c[p] - 2 * g * finger.contact, finger_side))
-    moves[p] = nearest(at_p)
-    return Worked(setup, state, pluck, finger_force, G, g, A, c, finger_side, moves, nearest(of_finger))
+    moves[p] = nearest(*at_p.as_integer_ratio())
+    finger_move = nearest(*of_finger.as_integer_ratio())
+    return Worked(setup, state, pluck, finger_force, G, g, A, c, finger_side, moves, finger_move)
 
 
 def next_state(worked):

@@ -1,6 +1,11 @@
 // Drawn numbers. The generator holds a number of 32 bits other than 0; reference/runs.py has the same one.
 ghost use Prim.Native.Nat.{_≤_, _<_};
 
+// The first number, from a seed above 0: spread over the 32 bits.
+pub fn first(seed: u32) -> u32 {
+    (seed as u64 * 2654435761 % 4294967296) as u32
+}
+
 // The number that follows x.
 fn next(x: u32) -> u32 {
     let a = x ^ (x << 13);

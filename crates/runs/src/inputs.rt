@@ -20,9 +20,9 @@ pub fn setup(x: &mut u32, segments: u32) -> Setup
     requires { ⌜ 1 < segments ⌝ }
 {
     let tension = 1 + draw(x, 4096);
-    let stiffness = some(x, (4096 - tension) / 4);
-    let viscous = some(x, (4096 - tension - 4 * stiffness) / 2);
-    let plain = some(x, 4096);
+    let stiffness = evenly_or_some(x, (4096 - tension) / 4);
+    let viscous = evenly_or_some(x, (4096 - tension - 4 * stiffness) / 2);
+    let plain = evenly_or_some(x, 4096);
     let finger_stiffness = evenly_or_some(x, 65535);
     let mass = 1 + evenly_or_some(x, 1048575);
     let finger_place = 1 + draw(x, segments - 1);
@@ -94,7 +94,7 @@ pub fn neck(
     let depth = some(x, 524288);
     board(x, depth, lowered);
     let mut places = room::frets();
-    let spacing = 1 + draw(x, 128);
+    let spacing = 1 + draw(x, 32);
     let count = frets(x, setup.segments, spacing, &mut places);
     let tip = negative(draw(x, depth + 1));
     let board_stiffness = evenly_or_some(x, 65535) as u16;

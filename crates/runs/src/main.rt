@@ -171,7 +171,7 @@ fn stretches(
 ) {
     let mut samples = room::samples();
     let mut now = start(x, setup, first, second, contact, progress::none());
-    for i in 0..24 {
+    for i in 0..21 {
         now = stretch(
             x,
             setup,
@@ -217,7 +217,7 @@ fn run_lent(
 fn run(seed: u32, segments: u32)
     requires { ⌜ (1 < segments) × (segments ≤ 128) ⌝ }
 {
-    let mut x = seed;
+    let mut x = generator::first(seed);
     let setup = inputs::setup(&mut x, segments);
     let points = segments as usize - 1;
     let mut board = room::points();

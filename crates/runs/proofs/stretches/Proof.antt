@@ -11,7 +11,7 @@ abbrev Inv-loop : tie.InvT-loop
 Inv-loop seed x₀ setup heights stiffness first₀ second₀ contact₀ samples₀ now₀ i₀ x first second contact samples now i = SameLengths first₀ second₀ contact₀ first second contact
 
 abbrev μ-loop : tie.MeasureT-loop
-μ-loop seed x₀ setup heights stiffness first₀ second₀ contact₀ samples₀ now₀ i₀ x first second contact samples now i = 24 - i
+μ-loop seed x₀ setup heights stiffness first₀ second₀ contact₀ samples₀ now₀ i₀ x first second contact samples now i = 21 - i
 
 pub stretches-spec : {M : Type 1} → statement M
 stretches-spec =
