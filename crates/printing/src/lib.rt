@@ -1,4 +1,6 @@
 // Text, numbers and lists of numbers on standard output.
+ghost use mathlib.Core.Path.{_≡_};
+ghost use lib.IntN.{natAbs};
 
 pub fn text(bytes: &[u8]) {
     io::write_all(1, bytes);
@@ -9,7 +11,9 @@ pub fn unsigned(n: u64) {
 }
 
 // The size of a number, without its sign.
-pub fn magnitude(x: i32) -> u64 {
+pub fn magnitude(x: i32) -> u64
+    ensures { λ r. ⌜ r ≡ natAbs x ⌝ }
+{
     let wide = x as i64;
     if wide < 0 {
         (0 - wide) as u64
