@@ -10,6 +10,7 @@ pub run-spec : {M : Type 1} → statement M
 run-spec =
     tie.close
     (tie.spec
+    (λ c κs. tt)
     (λ c κs. search needs)
     (λ c. search needs)
     (λ c κs. tt)
