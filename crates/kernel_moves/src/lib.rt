@@ -9,9 +9,9 @@ ghost use Rattle.model.specs.Setup.{points};
 ghost use Rattle.model.specs.Step as Steps;
 ghost use Rattle.kernel_system.specs.Systems.{FingerRanges};
 ghost use Rattle.kernel_free_moves.specs.MoveRanges.{MoveRanges};
-use kernel_differences::weighted;
 use kernel_finger_point::moves_at_finger;
 use kernel_free_moves::free_moves;
+use kernel_weighted::weighted;
 use model::Finger;
 use model::Setup;
 
