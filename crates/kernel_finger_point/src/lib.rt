@@ -9,9 +9,9 @@ ghost use Rattle.kernel_system.specs.Systems.{rounded, FingerRanges};
 ghost use Rattle.kernel_weighted.specs.Weighted as Weights;
 ghost use Rattle.kernel_weighted.specs.Weighted.{placed};
 ghost use Rattle.kernel_free_moves.specs.MoveRanges.{MoveRanges, sideAt};
+use kernel_finger_moves::finger_moves;
 use kernel_free_moves::force_at;
 use kernel_point::point_equation;
-use kernel_system::finger_moves;
 use model::Finger;
 use model::Setup;
 
