@@ -12,7 +12,7 @@ use Rattle.model.specs.Differences.{at, places}
 use Rattle.model.specs.Rounding.{nearest}
 use Rattle.model.specs.Step.{factor, rightSide}
 use Rattle.model.specs.declared.Setup.{Setup}
-use Rattle.kernel_differences.specs.Weighted.{StringRanges}
+use Rattle.kernel_weighted.specs.Weighted.{StringRanges}
 
 -- newer string u, older string v, contact variables ψ and pluck force f
 pub record MoveRanges (s : Setup) (u v ψ : List ℤ) (f : ℤ) : Type 0 where

@@ -16,7 +16,7 @@ use Rattle.laws.specs.InRange.{InRange, in-range}
 use Rattle.laws.specs.Refusals.{fails, passed-append, all-yes}
 use Rattle.laws.specs.Sizes.{StepRanges, small}
 use Rattle.kernel_system.specs.Systems.{FingerRanges}
-use Rattle.kernel_differences.specs.Weighted.{StringRanges}
+use Rattle.kernel_weighted.specs.Weighted.{StringRanges}
 use Rattle.kernel_free_moves.specs.MoveRanges.{MoveRanges}
 
 module _ (s : Setup) (neck : Neck) (x : State) (F : Forces) (h : Passed (callRules s neck x F)) where

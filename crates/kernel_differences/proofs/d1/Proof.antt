@@ -11,7 +11,7 @@ use Rattle.integers.specs.Filled.{getD-tabulate}
 use Rattle.integers.specs.Machine.{Code, var, ♯_, _⊞_, _⊟_, _⊠_, Within, ∅, _▹_, result, answer}
 use Rattle.model.specs.Differences.{at, D1}
 use Rattle.laws.specs.Strings.{at-D1}
-use Rattle.kernel_differences.specs.Weighted.{placed, weightedSize}
+use Rattle.kernel_weighted.specs.Weighted.{placed, weightedSize}
 use Rattle.kernel_differences.proofs.d1.Statement.{statement}
 use Rattle.kernel_differences.proofs.d1.Tie as tie
 use Rattle.kernel_differences.proofs.d1.Reads as reads

@@ -28,8 +28,8 @@ use Rattle.kernel_moves.proofs.moves.Tie as tie
 use Rattle.kernel_moves.proofs.moves.Reads as reads
 use Rattle.kernel_moves.proofs.moves.Lts as lts
 use Rattle.kernel_free_moves.proofs.free_moves.Reads as free-moves-reads
-use Rattle.kernel_moves.proofs.moves_at_finger.Reads as moves-at-finger-reads
-use Rattle.kernel_differences.proofs.weighted.Reads as weighted-reads
+use Rattle.kernel_finger_point.proofs.moves_at_finger.Reads as moves-at-finger-reads
+use Rattle.kernel_weighted.proofs.weighted.Reads as weighted-reads
 
 abbrev Learnt : lts.Claims
 Learnt = (weighted-reads.Asked, weighted-reads.Learnt, free-moves-reads.Asked, free-moves-reads.Learnt, moves-at-finger-reads.Asked, moves-at-finger-reads.Learnt)

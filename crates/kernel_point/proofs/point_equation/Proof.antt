@@ -20,9 +20,9 @@ use Rattle.model.specs.Step.{factor, rightSide}
 use Rattle.model.specs.declared.Setup.{Setup}
 use Rattle.laws.specs.Sizes.{inside-within, D1-bounded}
 use Rattle.laws.specs.Strings.{at-minus}
-use Rattle.kernel_differences.specs.Weighted.{weighted, placed, StringRanges, weightedSize, sideSizes}
-use Rattle.kernel_differences.specs.InRange.{displacement-size, contact-size, newer-spans, older-spans, most-points}
-use Rattle.kernel_differences.specs.Linear.{spans-weighted, weighted-size, weighted-linear}
+use Rattle.kernel_weighted.specs.Weighted.{weighted, placed, StringRanges, weightedSize, sideSizes}
+use Rattle.kernel_weighted.specs.InRange.{displacement-size, contact-size, newer-spans, older-spans, most-points}
+use Rattle.kernel_weighted.specs.Linear.{spans-weighted, weighted-size, weighted-linear}
 use Rattle.kernel_point.proofs.point_equation.Statement.{statement}
 use Rattle.kernel_point.proofs.point_equation.Tie as tie
 use Rattle.kernel_point.proofs.point_equation.Reads as reads

@@ -2,7 +2,7 @@
 use mathlib.Core.List.{[], _∷_}
 use mir.Syntax.{w32, w64}
 use Rattle.integers.specs.Machine.{Code, var, ♯_, _⊞_, _⊠_, cast, Within, result, answer}
-use Rattle.kernel_differences.specs.Weighted.{sideSizes}
+use Rattle.kernel_weighted.specs.Weighted.{sideSizes}
 use Rattle.kernel_point.proofs.point_side.Statement.{statement}
 use Rattle.kernel_point.proofs.point_side.Tie as tie
 use Rattle.kernel_point.proofs.point_side.Reads as reads

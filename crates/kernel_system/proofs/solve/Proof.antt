@@ -7,7 +7,7 @@ use mir.Val.{toZ, ofZ}
 use Rattle.integers.specs.Machine.{var, result}
 use Rattle.model.specs.System.{System}
 use Rattle.kernel_system.specs.Systems.{rounded, Solvable}
-use Rattle.kernel_system.proofs.Same.{same-system}
+use Rattle.kernel_system.specs.Same.{same-system}
 use Rattle.kernel_system.proofs.solve.Statement.{statement}
 use Rattle.kernel_system.proofs.solve.Tie as tie
 

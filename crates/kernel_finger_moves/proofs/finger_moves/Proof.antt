@@ -1,4 +1,4 @@
--- `system::finger_moves` meets its contract.
+-- `finger_moves` meets its contract.
 use mathlib.Core.Path.{_≡_, sym, subst, _∙_, ap}
 use mathlib.Core.List.{List, [], _∷_}
 use Prim.Native.Nat.{ℕ, _^_}
@@ -15,13 +15,13 @@ use Rattle.model.specs.declared.Finger.{Finger}
 use Rattle.laws.specs.Accepted.{SetupFacts, setup-facts}
 use Rattle.laws.specs.Moves.{regular-system}
 use Rattle.laws.specs.Sizes.{inside-within}
-use Rattle.kernel_system.proofs.Same.{same-system}
+use Rattle.kernel_system.specs.Same.{same-system}
 use Rattle.kernel_system.specs.Systems.{systemOf, rounded, Solvable}
-use Rattle.kernel_system.proofs.finger_moves.Statement.{statement}
-use Rattle.kernel_system.proofs.finger_moves.Tie as tie
-use Rattle.kernel_system.proofs.finger_moves.Reads as reads
-use Rattle.kernel_system.proofs.finger_moves.Lts as lts
+use Rattle.kernel_finger_moves.proofs.finger_moves.Statement.{statement}
+use Rattle.kernel_finger_moves.proofs.finger_moves.Tie as tie
+use Rattle.kernel_finger_moves.proofs.finger_moves.Reads as reads
+use Rattle.kernel_finger_moves.proofs.finger_moves.Lts as lts
 use Rattle.kernel_system.proofs.solve.Reads as solve-reads
 
 -- factor, right side, gradient, mass, the finger's heights and contact variable, force
 abbrev sizes : List ℕ

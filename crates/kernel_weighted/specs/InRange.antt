@@ -18,7 +18,7 @@ use Rattle.laws.specs.Accepted.{SetupFacts, setup-facts}
 use Rattle.laws.specs.Refusals.{at-all}
 use Rattle.laws.specs.Sizes.{bounded}
 use Rattle.laws.specs.Strings.{_spans_}
-use Rattle.kernel_differences.specs.Weighted.{StringRanges}
+use Rattle.kernel_weighted.specs.Weighted.{StringRanges}
 
 -- a string of displacements
 module _ (u : List ℤ) (h : T (all displacementOk u)) where

@@ -16,8 +16,8 @@ use Rattle.model.specs.Setup.{L, M, S, points}
 use Rattle.model.specs.Differences.{at, minus, D1, D2}
 use Rattle.model.specs.declared.Setup.{Setup}
 use Rattle.laws.specs.Strings.{_spans_, at-past, at-D1, spans-D1, at-minus, spans-minus}
-use Rattle.kernel_differences.specs.Weighted.{weighted, StringRanges, weightedSize}
-use Rattle.kernel_differences.specs.InRange.{displacement-size, facts, newer-spans, older-spans}
+use Rattle.kernel_weighted.specs.Weighted.{weighted, StringRanges, weightedSize}
+use Rattle.kernel_weighted.specs.InRange.{displacement-size, facts, newer-spans, older-spans}
 
 module _ (s : Setup) {u v : List ℤ} {n : ℕ} (hu : u spans n) (hv : v spans n) where
   -- its value at a place, by the two strings

@@ -1,4 +1,4 @@
--- `differences::weigh` meets its contract.
+-- `weighted::weigh` meets its contract.
 use mathlib.Core.Path.{_∙_}
 use mathlib.Core.List.{List, [], _∷_}
 use lib.IntN.{ℤ, pos}
@@ -9,10 +9,10 @@ use Rattle.integers.specs.Machine.{Code, var, nat, ♯_, _⊞_, _⊟_, _⊠_, c
 use Rattle.model.specs.Ranges.{displacementOk}
 use Rattle.laws.specs.Sizes.{inside-within}
 use Rattle.laws.specs.Accepted.{setup-facts}
-use Rattle.kernel_differences.proofs.weigh.Statement.{statement}
-use Rattle.kernel_differences.proofs.weigh.Tie as tie
-use Rattle.kernel_differences.proofs.weigh.Reads as reads
-use Rattle.kernel_differences.proofs.weigh.Lts as lts
+use Rattle.kernel_weighted.proofs.weigh.Statement.{statement}
+use Rattle.kernel_weighted.proofs.weigh.Tie as tie
+use Rattle.kernel_weighted.proofs.weigh.Reads as reads
+use Rattle.kernel_weighted.proofs.weigh.Lts as lts
 
 -- of tension, stiffness and viscous loss, then left neighbour, own, right neighbour and older displacement
 abbrev numbers : lts.Start reads.Pre reads.Post → List ℤ

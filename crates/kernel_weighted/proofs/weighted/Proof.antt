@@ -1,4 +1,4 @@
--- `differences::weighted` meets its contract. The loop's invariant: the places up to i are done and the others are 0, and `left` is the displacement at place i.
+-- `weighted::weighted` meets its contract. The loop's invariant: the places up to i are done and the others are 0, and `left` is the displacement at place i.
 use mathlib.Core.Path.{_≡_, refl, sym, _∙_, ap}
 use mathlib.Core.List.{List}
 use Prim.Native.Nat.{ℕ, suc, _+_, _-_, _≤_, _<_}
@@ -17,14 +17,14 @@ use Rattle.model.specs.Setup.{L, M, S, points}
 use Rattle.model.specs.Differences.{at}
 use Rattle.model.specs.declared.Setup.{Setup}
 use Rattle.laws.specs.Strings.{at-past}
-use Rattle.kernel_differences.specs.Weighted.{weighted, placed, StringRanges}
-use Rattle.kernel_differences.specs.InRange.{displacement, displacement-read, newer-spans, older-spans, some-point, most-points}
-use Rattle.kernel_differences.specs.Linear.{weighted-point, weighted-past}
-use Rattle.kernel_differences.proofs.weighted.Statement.{statement}
-use Rattle.kernel_differences.proofs.weighted.Tie as tie
-use Rattle.kernel_differences.proofs.weighted.Reads as reads
-use Rattle.kernel_differences.proofs.weighted.Lts as lts
-use Rattle.kernel_differences.proofs.weigh.Reads as weigh-reads
+use Rattle.kernel_weighted.specs.Weighted.{weighted, placed, StringRanges}
+use Rattle.kernel_weighted.specs.InRange.{displacement, displacement-read, newer-spans, older-spans, some-point, most-points}
+use Rattle.kernel_weighted.specs.Linear.{weighted-point, weighted-past}
+use Rattle.kernel_weighted.proofs.weighted.Statement.{statement}
+use Rattle.kernel_weighted.proofs.weighted.Tie as tie
+use Rattle.kernel_weighted.proofs.weighted.Reads as reads
+use Rattle.kernel_weighted.proofs.weighted.Lts as lts
+use Rattle.kernel_weighted.proofs.weigh.Reads as weigh-reads
 
 abbrev Inv-loop : tie.InvT-loop
 Inv-loop setup newer older last out₀ left₀ i₀ out left i = (i ≤ last) × (toZ w32 left ≡ at newer i) × Begun (pos 0) 129 (at (weighted setup newer older)) (i + 1) out

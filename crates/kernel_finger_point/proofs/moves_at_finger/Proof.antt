@@ -18,12 +18,12 @@ use Rattle.laws.specs.Sizes.{factor-size}
 use Rattle.kernel_system.specs.Systems.{rounded}
 use Rattle.kernel_free_moves.specs.MoveRanges.{sideAt}
 use Rattle.kernel_free_moves.specs.InRange.{facts, side-within, equationAt, equation-is, force-ok}
-use Rattle.kernel_moves.proofs.moves_at_finger.Statement.{statement}
-use Rattle.kernel_moves.proofs.moves_at_finger.Tie as tie
-use Rattle.kernel_moves.proofs.moves_at_finger.Reads as reads
-use Rattle.kernel_moves.proofs.moves_at_finger.Lts as lts
+use Rattle.kernel_finger_point.proofs.moves_at_finger.Statement.{statement}
+use Rattle.kernel_finger_point.proofs.moves_at_finger.Tie as tie
+use Rattle.kernel_finger_point.proofs.moves_at_finger.Reads as reads
+use Rattle.kernel_finger_point.proofs.moves_at_finger.Lts as lts
 use Rattle.kernel_free_moves.proofs.force_at.Reads as force-at-reads
-use Rattle.kernel_system.proofs.finger_moves.Reads as finger-moves-reads
+use Rattle.kernel_finger_moves.proofs.finger_moves.Reads as finger-moves-reads
 use Rattle.kernel_point.proofs.point_equation.Reads as point-equation-reads
 
 abbrev Learnt : lts.Claims

@@ -1,2 +1,0 @@
--- Lemmas on two-by-two systems.
-mod Same
