@@ -97,9 +97,11 @@ def with_frets(*frets, segments=128):
 
 
 def lengths(*labels):
+    """6 for each of these buffers, an entry short and an entry long."""
     return 6, [change(label) for label in labels for change in (cut, longer)]
 
 
+STEP_BUFFERS = ("heights", "stiffness", "first", "second", "contact")
 HEIGHTS_ROW = (7, [put("heights", (0, n)) for n in (1, -1_048_577, 2_147_483_647)] + [put("heights", (2, -2_147_483_648))])
 STATE_ROW = (
     11,
@@ -134,11 +136,11 @@ ROWS = {
         (10, [put("heights", (0, n)) for n in (-1, 1_048_577)] + [put("heights", (1, n)) for n in (1_048_577, -1_048_577)]),
     ],
     "step": SETUP_ROWS
-    + [lengths("heights", "stiffness", "first", "second", "contact"), HEIGHTS_ROW, STATE_ROW]
+    + [lengths(*STEP_BUFFERS), HEIGHTS_ROW, STATE_ROW]
     + [FORCES_ROW, NEXT_DISPLACEMENT_ROW, NEXT_CONTACT_ROW],
     "block": SETUP_ROWS
     + [
-        lengths("heights", "stiffness", "first", "second", "contact"),
+        lengths(*STEP_BUFFERS),
         (15, [cut("forces"), cut("samples"), longer("samples"), both(longer("forces"), longer("samples")), give("forces"), give("samples")]),
         HEIGHTS_ROW,
         STATE_ROW,
@@ -172,9 +174,6 @@ SETUP_ON = [
     put("setup", (FINGER, 1), (PLUCK, 1), (BRIDGE, 1), (NECK, 1)),
 ]
 HEIGHTS_ON = [put("heights", (0, 0)), put("heights", (2, -1_048_576))]
-
-
-STEP_BUFFERS = ("heights", "stiffness", "first", "second", "contact")
 STEP_ON = (
     SETUP_ON
     + [string_of(2, *STEP_BUFFERS), string_of(128, *STEP_BUFFERS)]
@@ -185,7 +184,7 @@ STEP_ON = (
     + [both(put("second", (2, n)), put("first", (2, n))) for n in (1_048_576, -1_048_576)]
     + [put("finger", (0, n), (1, n)) for n in (1_048_576, -1_048_576)]
     + [put("contact", (2, n)) for n in (67_108_864, -67_108_864)]
-    + [both(put("finger", (0, 1000), (2, n))) for n in (67_108_864, -67_108_864)]
+    + [put("finger", (0, 1000), (2, n)) for n in (67_108_864, -67_108_864)]
 )
 
 ACCEPTED = {
@@ -204,7 +203,8 @@ ACCEPTED = {
     "block": [both(give("forces", 90000, -70000), give("samples", 7, 7), change) for change in STEP_ON]
     + [both(give("forces"), give("samples"), give("turn", n)) for n in (0, 1, 7)]
     + [both(give("forces", *([0] * 64)), give("samples", *([7] * 64)))],
-    "newest": [give("turn", n) for n in (0, 1, 2, U32)] + [both(give("turn", n), cut("first")) for n in (0, 1)]
+    "newest": [give("turn", n) for n in (0, 1, 2, U32)]
+    + [both(give("turn", n), cut("first")) for n in (0, 1)]
     + [both(give("turn", n), give("second")) for n in (0, 1)],
     "reading": SETUP_ON
     + [both(string_of(n, "heights", "first", "second"), give("place", 1)) for n in (2, 128)]
@@ -282,7 +282,7 @@ LATER = [
     (12, give("forces", 5, 6, 0, -1_073_741_825, 0, 0)),
     (13, put("finger", (0, 400_000), (1, 0))),
     (13, SLACK, give("forces", 0, 0, 1_073_741_824, 0, 0, 0), put("first", (0, 850_000)), put("second", (0, 850_000))),
-    (14, both(put("first", (0, 300_000)), put("second", (0, 900_000)), put("contact", (0, -67_000_000)))),
+    (14, put("first", (0, 300_000)), put("second", (0, 900_000)), put("contact", (0, -67_000_000))),
 ]
 
 
