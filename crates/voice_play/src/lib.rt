@@ -11,6 +11,7 @@ use model::BlockAnswer;
 use model::Finger;
 use model::Setup;
 use model::StepAnswer;
+use voice_frames::forces_at;
 use voice_frames::write_frame;
 use voice_turn::step_ready;
 
@@ -38,7 +39,7 @@ pub fn play(
 {
     let steps = forces.len() / 2;
     for count in 0..steps {
-        let at = 2 * count;
+        let acting = forces_at(forces, count);
         let answer = step_ready(
             setup,
             roots,
@@ -49,14 +50,14 @@ pub fn play(
             contact,
             turn,
             finger,
-            forces[at],
-            forces[at + 1],
+            acting.pluck,
+            acting.finger,
         );
         match answer {
             StepAnswer::Accepted(stepped) => {
                 turn = stepped.turn;
                 finger = stepped.finger;
-                write_frame(stepped.frame, samples, at);
+                write_frame(stepped.frame, samples, count);
             }
             StepAnswer::Refused(number) => {
                 return BlockAnswer {

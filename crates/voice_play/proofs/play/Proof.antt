@@ -20,6 +20,7 @@ use Rattle.voice_play.proofs.play.Statement.{statement}
 use Rattle.voice_play.proofs.play.Tie as tie
 use Rattle.voice_play.proofs.play.Reads as reads
 use Rattle.voice_play.proofs.play.Lts as lts
+use Rattle.voice_frames.proofs.forces_at.Reads as forces-at-reads
 use Rattle.voice_frames.proofs.write_frame.Reads as write-frame-reads
 use Rattle.voice_turn.proofs.step_ready.Reads as step-ready-reads
 
@@ -79,7 +80,7 @@ loop-holds c =
 -- one step more
 module _ (d : tie.After-step-ready Inv-loop μ-loop) where
   abbrev inside : tie.In-loop Inv-loop μ-loop
-  inside = d .before .before .before .before .before .before
+  inside = d .before .before .before .before .before .before .before
 
   abbrev l : tie.At-loop Inv-loop μ-loop
   l = inside .before
@@ -93,13 +94,16 @@ module _ (d : tie.After-step-ready Inv-loop μ-loop) where
   abbrev contact : List ℤ
   contact = d .step-ready .last .1 .1 .1 .1 .1 .1 .0
 
-  -- with the forces as they are read
+  -- with the forces that stand at its place
   more : OneMore (s l) (neck l) (forces l) (v l) (l .loop .count) (d .step-ready .result) first second contact
-  more = record {
-    below = inside .loop-test .taken;
-    result = d .step-ready .ensures
-        ∙ ap₂ (λ pluck force. step (s l) (neck l) (v l) (record { pluck = pluck; finger = force })) (toZ-ofZ (sfits-of (d .before .before .step-ready-arg4 .given))) (toZ-ofZ (sfits-of (d .before .step-ready-arg5 .given)));
-  }
+  more =
+      let told = d .before .struct-told2 .given in
+      record {
+        below = inside .loop-test .taken;
+        result = d .step-ready .ensures
+            ∙ ap₂ (λ pluck force. step (s l) (neck l) (v l) (record { pluck = pluck; finger = force })) (toZ-ofZ (sfits-of (told .0 .1))) (toZ-ofZ (sfits-of (told .1 .0 .1)))
+            ∙ ap (step (s l) (neck l) (v l)) (d .before .before .before .before .before .before .forces-at .ensures);
+      }
 
 returns : tie.Need-returns Inv-loop μ-loop
 returns c =
@@ -161,13 +165,8 @@ play-spec =
     Inv-loop
     μ-loop
     loop-holds
-    (λ c. search needs)
-    (λ c. search needs)
-    (λ c. search needs)
-    (λ c. search needs)
-    (λ c. search needs)
-    (λ c. search needs)
-    (λ c κs. (c .before .before .before .before .before .before .before .before .before .pre .0, c .before .before .before .before .before .before .loop .inv .ready))
+    (λ c κs. c .loop-test .taken)
+    (λ c κs. let l = c .before .before .before .before .before .before .before in (k l .pre .0, l .loop .inv .ready))
     (λ c. search needs)
     (λ c κs. search needs)
     (λ c. search needs)
