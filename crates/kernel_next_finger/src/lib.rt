@@ -24,14 +24,30 @@ pub fn next_finger_contact(contact: i32, gradient: i64, delta: i64, finger_delta
     (contact as i64) + gradient * (delta - finger_delta)
 }
 
+// The finger's new height and contact variable, before they are judged.
+pub struct NewFinger {
+    pub height: i64,
+    pub contact: i64,
+}
+
+// The new finger, from its gradient g, the move δ of the point under it and its own move δw.
+pub fn new_finger(finger: Finger, gradient: i64, delta: i64, finger_delta: i64) -> NewFinger
+    requires { ⌜ (gradient within 255) × (delta within 2 ^ 32) × («finger_delta» within 2 ^ 44) ⌝ }
+    ensures { λ r. ⌜ r ≡ record { height = finger .older +ℤ «finger_delta»; contact = finger .contact +ℤ gradient *ℤ (delta -ℤ «finger_delta») } ⌝ }
+{
+    let height = next_height(finger.older, finger_delta);
+    let contact = next_finger_contact(finger.contact, gradient, delta, finger_delta);
+    NewFinger { height, contact }
+}
+
 // The finger after an accepted step: its new height and contact variable, and the newer height, which is now the older one.
-pub fn next_finger(newer: i32, height: i64, contact: i64) -> Finger
-    requires { ⌜ T (displacementOk height) × T (contactOk contact) ⌝ }
-    ensures { λ r. ⌜ r ≡ record { newer = height; older = newer; contact = contact } ⌝ }
+pub fn next_finger(newer: i32, next: NewFinger) -> Finger
+    requires { ⌜ T (displacementOk (next .height)) × T (contactOk (next .contact)) ⌝ }
+    ensures { λ r. ⌜ r ≡ record { newer = next .height; older = newer; contact = next .contact } ⌝ }
 {
     Finger {
-        newer: height as i32,
+        newer: next.height as i32,
         older: newer,
-        contact: contact as i32,
+        contact: next.contact as i32,
     }
 }

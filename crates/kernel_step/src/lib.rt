@@ -10,16 +10,10 @@ use kernel_gradients::point_gradients;
 use kernel_moves::moves;
 use kernel_next::next_contact;
 use kernel_next::next_string;
-use kernel_next_finger::next_finger_contact;
-use kernel_next_finger::next_height;
+use kernel_next_finger::NewFinger;
+use kernel_next_finger::new_finger;
 use model::Finger;
 use model::Setup;
-
-// The finger's new height and contact variable, before they are judged.
-pub struct NewFinger {
-    pub height: i64,
-    pub contact: i64,
-}
 
 // The new string and the new contact variables, at the front of `string` and `contacts`, and the new finger.
 pub fn work_out(
@@ -70,11 +64,5 @@ pub fn work_out(
     next_string(older, &deltas, string);
     next_contact(contact, &gradients, &deltas, contacts);
     let place = setup.finger.place as usize;
-    let delta = deltas[place - 1];
-    let height = next_height(finger.older, finger_delta);
-    let contact_variable = next_finger_contact(finger.contact, gradient, delta, finger_delta);
-    NewFinger {
-        height,
-        contact: contact_variable,
-    }
+    new_finger(finger, gradient, deltas[place - 1], finger_delta)
 }

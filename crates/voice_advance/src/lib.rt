@@ -4,17 +4,12 @@ ghost use Rattle.kernel_contact.specs.Table.{rootTable};
 ghost use Rattle.laws.specs.Advance as Steps;
 ghost use Rattle.laws.specs.Advance.{advancedResult};
 ghost use Rattle.laws.specs.Ready.{Ready};
-use kernel_next::write;
-use kernel_next_finger::next_finger;
-use kernel_samples::pickup_frame;
 use kernel_step::work_out;
 use model::Finger;
 use model::Setup;
 use model::StepAnswer;
-use model::Stepped;
+use voice_outcome::outcome;
 use voice_rows::forces_ok;
-use voice_rows::new_contact_variables_ok;
-use voice_rows::new_string_ok;
 
 // Steps from the newer and the older string: writes the new string over the older one and the contact variables, and answers with the turn that
 // it is given; or answers 12, 13 or 14 and leaves them.
@@ -57,20 +52,14 @@ pub fn advance(
         &mut string,
         &mut contacts,
     );
-    let points = newer.len();
-    if !new_string_ok(next.height, &string, points) {
-        return StepAnswer::Refused(13);
-    }
-    if !new_contact_variables_ok(next.contact, &contacts, points) {
-        return StepAnswer::Refused(14);
-    }
-    write(&string, older);
-    write(&contacts, contact);
-    let frame = pickup_frame(setup, older);
-    let moved = next_finger(finger.newer, next.height, next.contact);
-    StepAnswer::Accepted(Stepped {
+    outcome(
+        setup,
+        next,
+        &string,
+        &contacts,
+        older,
+        contact,
         turn,
-        finger: moved,
-        frame,
-    })
+        finger.newer,
+    )
 }

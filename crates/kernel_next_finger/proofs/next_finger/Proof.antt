@@ -12,16 +12,16 @@ use Rattle.kernel_next_finger.proofs.next_finger.Reads as reads
 use Rattle.kernel_next_finger.proofs.next_finger.Lts as lts
 
 module _ (c : lts.Start reads.Pre reads.Post) where
-  height-fits : SFits w32 (c .args .height)
+  height-fits : SFits w32 (c .args .next .height)
   unfolding displacementOk
-  height-fits = fits (inside-within 1048576 (c .args .height) (c .pre .0)) tt
+  height-fits = fits (inside-within 1048576 (c .args .next .height) (c .pre .0)) tt
 
-  contact-fits : SFits w32 (c .args .contact)
+  contact-fits : SFits w32 (c .args .next .contact)
   unfolding contactOk
-  contact-fits = fits (inside-within 67108864 (c .args .contact) (c .pre .1)) tt
+  contact-fits = fits (inside-within 67108864 (c .args .next .contact) (c .pre .1)) tt
 
 returns : tie.Need-returns
-returns c = λ i. record { newer = narrow-is w64 tt (height-fits c) i; older = toZ-ofZ (c .fits .newer) i; contact = narrow-is w64 tt (contact-fits c) i }
+returns c = let k = c .before .before .before .before in λ i. record { newer = narrow-is w64 tt (height-fits k) i; older = toZ-ofZ (k .fits .newer) i; contact = narrow-is w64 tt (contact-fits k) i }
 
 pub next-finger-spec : {M : Type 1} → statement M
-next-finger-spec = tie.close (tie.spec (λ c. narrow-fits w64 tt (height-fits c)) (λ c. narrow-fits w64 tt (contact-fits c)) returns)
+next-finger-spec = tie.close (tie.spec (λ c. narrow-fits w64 tt (height-fits (c .before .before))) (λ c. narrow-fits w64 tt (contact-fits (c .before .before .before .before))) returns)

@@ -32,8 +32,7 @@ use Rattle.kernel_gradients.proofs.point_gradients.Reads as point-gradients-rea
 use Rattle.kernel_moves.proofs.moves.Reads as moves-reads
 use Rattle.kernel_next.proofs.next_contact.Reads as next-contact-reads
 use Rattle.kernel_next.proofs.next_string.Reads as next-string-reads
-use Rattle.kernel_next_finger.proofs.next_finger_contact.Reads as next-finger-contact-reads
-use Rattle.kernel_next_finger.proofs.next_height.Reads as next-height-reads
+use Rattle.kernel_next_finger.proofs.new_finger.Reads as new-finger-reads
 
 abbrev Learnt : lts.Claims
 Learnt = (
@@ -47,10 +46,8 @@ Learnt = (
   next-string-reads.Learnt,
   next-contact-reads.Asked,
   next-contact-reads.Learnt,
-  next-height-reads.Asked,
-  next-height-reads.Learnt,
-  next-finger-contact-reads.Asked,
-  next-finger-contact-reads.Learnt,
+  new-finger-reads.Asked,
+  new-finger-reads.Learnt,
 )
 
 module _ (k : lts.Start Learnt reads.Pre reads.Post) where
@@ -198,27 +195,24 @@ module _ (m : lts.After-moves Learnt reads.Pre reads.Post) where
   delta-is = ap (λ z. toZ w64 (ofZ w64 z)) (sym (getD-take (points (s (k m))) (move-array m) (place - 1) (pos 0) point) ∙ ap (λ l. getD l (place - 1) (pos 0)) (point-moves-are m) ∙ sym (at-index (δ (k m) .points) place first-place))
       ∙ toZ-ofZ (fits (moves-size (sizes m) place) tt)
 
-next-height-requires : tie.Need-next-height-requires
-next-height-requires c κs = let m = c .before .before .before .before .before .before .before .before .before .before in rw (finger-move-is m) (finger-move-size m)
-
-next-finger-contact-requires : tie.Need-next-finger-contact-requires
-next-finger-contact-requires c κs =
-    let m = c .before .before .before .before .before .before .before .before .before .before .before .before in
+new-finger-requires : tie.Need-new-finger-requires
+new-finger-requires c κs =
+    let m = c .before .before .before .before .before .before .before .before .before in
     (rw (finger-gradient-is (d m)) (sizes m .gradient), rw (delta-is m) (moves-size (sizes m) (place m)), rw (finger-move-is m) (finger-move-size m))
 
 -- the next state, part by part
-module _ (c : lts.After-next-finger-contact Learnt reads.Pre reads.Post) where
+module _ (c : lts.After-new-finger Learnt reads.Pre reads.Post) where
   abbrev m : lts.After-moves Learnt reads.Pre reads.Post
-  m = c .before .before .before .before .before .before .before .before .before .before .before .before .before
+  m = c .before .before .before .before .before .before .before .before .before .before
 
   abbrev a : lts.Start Learnt reads.Pre reads.Post
   a = k m
 
   abbrev strings : lts.After-next-string Learnt reads.Pre reads.Post
-  strings = c .before .before .before .before .before .before .before .before .before .before
+  strings = c .before .before .before .before .before .before .before
 
   abbrev contacts : lts.After-next-contact Learnt reads.Pre reads.Post
-  contacts = c .before .before .before .before .before .before
+  contacts = c .before .before .before
 
   abbrev n : ℕ
   n = points (s a)
@@ -234,13 +228,11 @@ module _ (c : lts.After-next-finger-contact Learnt reads.Pre reads.Post) where
       ap (λ (n : ℕ). take n (contacts .next-contact .last .1 .1 .1 .0)) (sym e) ∙ contacts .next-contact .ensures .1
       ∙ ap₂ (λ g d. minus (x a .contact) (times g d)) (ap (λ (n : ℕ). take n (point-array (d m))) e ∙ point-gradients-are (d m)) (ap (λ (n : ℕ). take n (move-array m)) e ∙ point-moves-are m)
 
-  height-is : toZ w64 (ofZ w64 (c .before .before .next-height .result)) ≡ x a .finger .older +ℤ δ a .finger
-  height-is = toZ-ofZ (record { sfits = c .before .before .next-height .ok }) ∙ c .before .before .next-height .ensures
-      ∙ ap₂ (λ w d. w +ℤ d) (toZ-ofZ (fits (sizes m .heights .1) tt)) (finger-move-is m)
-
-  finger-contact-is : toZ w64 (ofZ w64 (c .next-finger-contact .result)) ≡ x a .finger .contact +ℤ G a .finger *ℤ (at (δ a .points) (p (s a)) -ℤ δ a .finger)
-  finger-contact-is = toZ-ofZ (record { sfits = c .next-finger-contact .ok }) ∙ c .next-finger-contact .ensures
-      ∙ ap₂ (λ φ z. φ +ℤ z) (toZ-ofZ (fits (sizes m .finger) tt)) (ap₂ (λ g z. g *ℤ z) (finger-gradient-is (d m)) (ap₂ (λ y w. y -ℤ w) (delta-is m) (finger-move-is m)))
+  finger-is : c .new-finger .result ≡ record { height = x a .finger .older +ℤ δ a .finger; contact = x a .finger .contact +ℤ G a .finger *ℤ (at (δ a .points) (p (s a)) -ℤ δ a .finger) }
+  finger-is = c .new-finger .ensures ∙ (λ i. record {
+    height = x a .finger .older +ℤ finger-move-is m i;
+    contact = x a .finger .contact +ℤ finger-gradient-is (d m) i *ℤ (delta-is m i -ℤ finger-move-is m i);
+  })
 
 returns : tie.Need-returns
 unfolding nextState workedStep
@@ -251,7 +243,7 @@ returns c = (
     newer = string-is c i;
     older = x (a c) .newer;
     contact = contact-is c i;
-    finger = record { newer = height-is c i; older = x (a c) .finger .newer; contact = finger-contact-is c i };
+    finger = record { newer = finger-is c i .height; older = x (a c) .finger .newer; contact = finger-is c i .contact };
   },
 )
 
@@ -268,6 +260,5 @@ work-out-spec =
     (λ c. first-place (c .before .before .before .before .before .before .before .before))
     (λ c. search needs)
     (λ c. let m = c .before .before .before .before .before .before .before .before in let l = point m in let h = short m _ refl in omega arith)
-    next-height-requires
-    next-finger-contact-requires
+    new-finger-requires
     returns)

@@ -1,0 +1,2 @@
+-- What the contract of `outcome` cites.
+pub mod Outcome
