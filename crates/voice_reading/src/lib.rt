@@ -9,7 +9,7 @@ use model::Reading;
 use model::Setup;
 use voice_buffers::three_lengths_ok;
 use voice_newest::newest;
-use voice_setup::setup_refusal;
+use voice_setup_refusal::setup_refusal;
 
 // Reads a place, or answers the number. Both strings are measured, and only the newest is examined.
 pub fn read_place<'a>(

@@ -9,7 +9,7 @@ use model::Started;
 use voice_buffers::three_lengths_ok;
 use voice_clearing::clear;
 use voice_finger::finger_ok;
-use voice_setup::setup_refusal;
+use voice_setup_refusal::setup_refusal;
 
 // Clears the three lent buffers and answers turn and finger, or answers the number and leaves them.
 pub fn fresh_start(

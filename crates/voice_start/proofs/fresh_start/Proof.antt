@@ -20,7 +20,7 @@ use Rattle.voice_start.proofs.fresh_start.Tie as tie
 use Rattle.voice_start.proofs.fresh_start.Reads as reads
 use Rattle.voice_start.proofs.fresh_start.Lts as lts
 use Rattle.voice_buffers.proofs.three_lengths_ok.Reads as lengths-reads
-use Rattle.voice_setup.proofs.setup_refusal.Reads as setup-reads
+use Rattle.voice_setup_refusal.proofs.setup_refusal.Reads as setup-reads
 use Rattle.voice_clearing.proofs.clear.Reads as clear-reads
 use Rattle.voice_finger.proofs.finger_ok.Reads as finger-reads
 
