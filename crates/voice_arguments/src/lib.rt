@@ -11,7 +11,7 @@ use model::Finger;
 use model::Setup;
 use voice_buffers::five_lengths_ok;
 use voice_rows::state_ok;
-use voice_setup::setup_refusal;
+use voice_setup_refusal::setup_refusal;
 
 // 1 to 5 and 6, or 0.
 pub fn buffers_refusal(

@@ -9,7 +9,7 @@ use voice_buffers::three_lengths_ok;
 use voice_frets::frets_wrong;
 use voice_frets::tip_wrong;
 use voice_laying::write_neck;
-use voice_setup::setup_refusal;
+use voice_setup_refusal::setup_refusal;
 
 // Lays the neck into the two lent buffers, heights and stiffness, or answers the number and leaves them.
 pub fn lay_neck(

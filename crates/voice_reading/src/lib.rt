@@ -1,31 +1,15 @@
 // 01, 'Playing a block, reading a place': the newest displacement at a place and, where the string is pressed there, its depth.
 ghost use mathlib.Core.Path.{_≡_};
-ghost use lib.Dec.{T};
-ghost use Rattle.model.specs.Ranges.{displacementOk, heightOk};
-ghost use Rattle.model.specs.Reading.{readingOf, reading};
+ghost use Rattle.model.specs.Reading.{reading};
 use kernel_places::place_ok;
 use kernel_ranges::displacements_ok;
 use kernel_ranges::heights_ok;
-use kernel_samples::double;
+use kernel_reading::shown;
 use model::Reading;
 use model::Setup;
 use voice_buffers::three_lengths_ok;
 use voice_newest::newest;
-use voice_setup::setup_refusal;
-
-// What a displacement u over a neck of this height shows: pressed where the depth, height − u, is above 0.
-fn shown(u: i32, height: i32) -> Reading
-    requires { ⌜ T (displacementOk u) × T (heightOk height) ⌝ }
-    ensures { λ r. ⌜ r ≡ readingOf u height ⌝ }
-{
-    let displacement = double(u);
-    let depth = height - u;
-    if depth > 0 {
-        Reading::Pressed(displacement, double(depth))
-    } else {
-        Reading::Free(displacement)
-    }
-}
+use voice_setup_refusal::setup_refusal;
 
 // Reads a place, or answers the number. Both strings are measured, and only the newest is examined.
 pub fn read_place<'a>(

@@ -15,7 +15,7 @@ use Rattle.voice_arguments.proofs.buffers_refusal.Tie as tie
 use Rattle.voice_arguments.proofs.buffers_refusal.Reads as reads
 use Rattle.voice_arguments.proofs.buffers_refusal.Lts as lts
 use Rattle.voice_buffers.proofs.five_lengths_ok.Reads as five-lengths-ok-reads
-use Rattle.voice_setup.proofs.setup_refusal.Reads as setup-refusal-reads
+use Rattle.voice_setup_refusal.proofs.setup_refusal.Reads as setup-refusal-reads
 
 abbrev Learnt : lts.Claims
 Learnt = (setup-refusal-reads.Asked, setup-refusal-reads.Learnt, five-lengths-ok-reads.Asked, five-lengths-ok-reads.Learnt)

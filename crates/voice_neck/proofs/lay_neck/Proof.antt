@@ -23,7 +23,7 @@ use Rattle.voice_neck.proofs.lay_neck.Tie as tie
 use Rattle.voice_neck.proofs.lay_neck.Reads as reads
 use Rattle.voice_neck.proofs.lay_neck.Lts as lts
 use Rattle.kernel_ranges.proofs.heights_ok.Reads as heights-reads
-use Rattle.voice_setup.proofs.setup_refusal.Reads as setup-reads
+use Rattle.voice_setup_refusal.proofs.setup_refusal.Reads as setup-reads
 use Rattle.voice_buffers.proofs.three_lengths_ok.Reads as lengths-reads
 use Rattle.voice_frets.proofs.frets_wrong.Reads as frets-reads
 use Rattle.voice_frets.proofs.tip_wrong.Reads as tip-reads

@@ -34,9 +34,9 @@ use Rattle.kernel_ranges.proofs.displacements_ok.Reads as displacements-ok-read
 use Rattle.kernel_ranges.proofs.heights_ok.Reads as heights-ok-reads
 use Rattle.kernel_places.proofs.place_ok.Reads as place-ok-reads
 use Rattle.voice_newest.proofs.newest.Reads as newest-reads
-use Rattle.voice_reading.proofs.shown.Reads as shown-reads
+use Rattle.kernel_reading.proofs.shown.Reads as shown-reads
 use Rattle.voice_buffers.proofs.three_lengths_ok.Reads as three-lengths-ok-reads
-use Rattle.voice_setup.proofs.setup_refusal.Reads as setup-refusal-reads
+use Rattle.voice_setup_refusal.proofs.setup_refusal.Reads as setup-refusal-reads
 
 abbrev Learnt : lts.Claims
 Learnt = (

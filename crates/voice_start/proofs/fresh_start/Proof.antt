@@ -20,9 +20,9 @@ use Rattle.voice_start.proofs.fresh_start.Tie as tie
 use Rattle.voice_start.proofs.fresh_start.Reads as reads
 use Rattle.voice_start.proofs.fresh_start.Lts as lts
 use Rattle.voice_buffers.proofs.three_lengths_ok.Reads as lengths-reads
-use Rattle.voice_setup.proofs.setup_refusal.Reads as setup-reads
-use Rattle.voice_start.proofs.clear.Reads as clear-reads
-use Rattle.voice_start.proofs.finger_ok.Reads as finger-reads
+use Rattle.voice_setup_refusal.proofs.setup_refusal.Reads as setup-reads
+use Rattle.voice_clearing.proofs.clear.Reads as clear-reads
+use Rattle.voice_finger.proofs.finger_ok.Reads as finger-reads
 
 abbrev Learnt : lts.Claims
 Learnt = (setup-reads.Asked, setup-reads.Learnt, lengths-reads.Asked, lengths-reads.Learnt, finger-reads.Asked, finger-reads.Learnt, clear-reads.Asked, clear-reads.Learnt)

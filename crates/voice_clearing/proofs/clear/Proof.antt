@@ -5,8 +5,8 @@ use native.Mathlib.Omega.{arith}
 use lib.IntN.{pos}
 use lib.ListN.{length}
 use Rattle.integers.specs.Filled.{Filled, filled-none, filled-more, filled-all, tabulate-same}
-use Rattle.voice_start.proofs.clear.Statement.{statement}
-use Rattle.voice_start.proofs.clear.Tie as tie
+use Rattle.voice_clearing.proofs.clear.Statement.{statement}
+use Rattle.voice_clearing.proofs.clear.Tie as tie
 
 abbrev Inv-loop : tie.InvT-loop
 Inv-loop numbers₀ i₀ i-end numbers i = Filled (pos 0) (length numbers₀) (λ k. pos 0) i numbers

@@ -1,8 +1,8 @@
 -- `all` over a visible list ends in `&& true`.
 use mathlib.Core.Path.{sym, _∙_, ap₂}
 use mathlib.Core.Bool.{_&&_, and-true}
-use Rattle.voice_setup.proofs.places_ok.Statement.{statement}
-use Rattle.voice_setup.proofs.places_ok.Tie as tie
+use Rattle.voice_ranges.proofs.places_ok.Statement.{statement}
+use Rattle.voice_ranges.proofs.places_ok.Tie as tie
 
 returns : tie.Need-returns
 returns c =

@@ -5,14 +5,14 @@ use lib.ListN.{drop}
 use Rattle.model.specs.Setup.{setupRules}
 use Rattle.laws.specs.Refusals.{Reached, reached-top, row-passed, row-passed-not, row-holds, row-holds-not}
 use Rattle.laws.specs.Accepted.{small-coefficients}
-use Rattle.voice_setup.proofs.setup_refusal.Statement.{statement}
-use Rattle.voice_setup.proofs.setup_refusal.Tie as tie
-use Rattle.voice_setup.proofs.setup_refusal.Reads as reads
-use Rattle.voice_setup.proofs.setup_refusal.Lts as lts
-use Rattle.voice_setup.proofs.between.Reads as between-reads
-use Rattle.voice_setup.proofs.coefficient_wrong.Reads as coefficient-reads
-use Rattle.voice_setup.proofs.places_ok.Reads as places-reads
-use Rattle.voice_setup.proofs.sum_wrong.Reads as sum-reads
+use Rattle.voice_setup_refusal.proofs.setup_refusal.Statement.{statement}
+use Rattle.voice_setup_refusal.proofs.setup_refusal.Tie as tie
+use Rattle.voice_setup_refusal.proofs.setup_refusal.Reads as reads
+use Rattle.voice_setup_refusal.proofs.setup_refusal.Lts as lts
+use Rattle.voice_ranges.proofs.between.Reads as between-reads
+use Rattle.voice_coefficients.proofs.coefficient_wrong.Reads as coefficient-reads
+use Rattle.voice_ranges.proofs.places_ok.Reads as places-reads
+use Rattle.voice_coefficients.proofs.sum_wrong.Reads as sum-reads
 
 abbrev Learnt : lts.Claims
 Learnt = (between-reads.Asked, between-reads.Learnt, coefficient-reads.Asked, coefficient-reads.Learnt, sum-reads.Asked, sum-reads.Learnt, places-reads.Asked, places-reads.Learnt)

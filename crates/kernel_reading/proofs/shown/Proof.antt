@@ -16,10 +16,10 @@ use Rattle.model.specs.Ranges.{displacementOk}
 use Rattle.model.specs.declared.Reading.{Reading}
 use Rattle.model.specs.declared.Reading.the-variants.{Free, Pressed}
 use Rattle.laws.specs.Sizes.{inside-within, height-within, depth-ok}
-use Rattle.voice_reading.proofs.shown.Statement.{statement}
-use Rattle.voice_reading.proofs.shown.Tie as tie
-use Rattle.voice_reading.proofs.shown.Reads as reads
-use Rattle.voice_reading.proofs.shown.Lts as lts
+use Rattle.kernel_reading.proofs.shown.Statement.{statement}
+use Rattle.kernel_reading.proofs.shown.Tie as tie
+use Rattle.kernel_reading.proofs.shown.Reads as reads
+use Rattle.kernel_reading.proofs.shown.Lts as lts
 use Rattle.kernel_samples.proofs.double.Reads as double-reads
 
 abbrev Learnt : lts.Claims

@@ -3,8 +3,8 @@ use mathlib.Core.Path.{sym, ap}
 use mathlib.Core.Bool.{_||_, or-false}
 use lib.Dec.{ltb, eqb}
 use Rattle.model.specs.Setup.{L, M, S, Z}
-use Rattle.voice_setup.proofs.coefficient_wrong.Statement.{statement}
-use Rattle.voice_setup.proofs.coefficient_wrong.Tie as tie
+use Rattle.voice_coefficients.proofs.coefficient_wrong.Statement.{statement}
+use Rattle.voice_coefficients.proofs.coefficient_wrong.Tie as tie
 
 returns : tie.Need-returns
 returns c =

@@ -4,8 +4,8 @@ use mathlib.Core.Bool.{_&&_}
 use lib.IntN.{pos}
 use mir.Facts.{toZ-ofZ}
 use Rattle.model.specs.Ranges.{inside, displacementOk}
-use Rattle.voice_start.proofs.finger_ok.Statement.{statement}
-use Rattle.voice_start.proofs.finger_ok.Tie as tie
+use Rattle.voice_finger.proofs.finger_ok.Statement.{statement}
+use Rattle.voice_finger.proofs.finger_ok.Tie as tie
 
 returns : tie.Need-returns
 unfolding inside

@@ -1,8 +1,8 @@
 -- `sum_wrong` meets its contract, and its sum does not overflow.
 use mathlib.Core.Path.{refl}
 use native.Mathlib.Omega.{arith}
-use Rattle.voice_setup.proofs.sum_wrong.Statement.{statement}
-use Rattle.voice_setup.proofs.sum_wrong.Tie as tie
+use Rattle.voice_coefficients.proofs.sum_wrong.Statement.{statement}
+use Rattle.voice_coefficients.proofs.sum_wrong.Tie as tie
 
 returns : tie.Need-returns
 returns c = refl

@@ -1,8 +1,8 @@
 -- `between` meets its contract.
 use mathlib.Core.Path.{refl}
 use Rattle.model.specs.Ranges.{between}
-use Rattle.voice_setup.proofs.between.Statement.{statement}
-use Rattle.voice_setup.proofs.between.Tie as tie
+use Rattle.voice_ranges.proofs.between.Statement.{statement}
+use Rattle.voice_ranges.proofs.between.Tie as tie
 
 returns : tie.Need-returns
 unfolding between

@@ -1,0 +1,12 @@
+// 01, 'One step': the examination of a fresh start's finger, 10.
+ghost use mathlib.Core.Path.{_≡_};
+ghost use Rattle.model.specs.Start.{fingerOk};
+use kernel_ranges::displacement_ok;
+
+// 10: the finger's height lies from 0 to 1,048,576, its older height in the range of displacements.
+pub fn finger_ok(height: i32, older: i32) -> bool
+    ensures { λ r. ⌜ r ≡ fingerOk height older ⌝ }
+{
+    let older_ok = displacement_ok(older);
+    ((0 <= height) & (height <= 1048576)) & older_ok
+}
