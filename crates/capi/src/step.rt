@@ -1,10 +1,10 @@
 // One step, for C.
 ghost use mathlib.Core.Path.{_≡_};
 ghost use Rattle.model.specs.Step as Steps;
-ghost use Rattle.capi.specs.Setups.{setupOf};
+ghost use Rattle.capi_setup.specs.Setups.{setupOf};
 ghost use Rattle.capi.specs.StepCall.{stepCall};
-use crate::SetupRow;
-use crate::setup_of;
+use capi_setup::SetupRow;
+use capi_setup::setup_of;
 use kernel_samples::frame;
 use model::Finger;
 use model::Frame;

@@ -9,13 +9,13 @@ use Rattle.model.specs.Step as Steps
 use Rattle.model.specs.Step.{StepResult}
 use Rattle.model.specs.declared.StepAnswer.{StepAnswer}
 use Rattle.model.specs.declared.StepAnswer.the-variants.{Accepted, Refused}
-use Rattle.capi.specs.Setups.{setupOf}
+use Rattle.capi_setup.specs.Setups.{setupOf}
 use Rattle.capi.specs.StepCall.{stepCall}
 use Rattle.capi.proofs.step.sv_step.Statement.{statement}
 use Rattle.capi.proofs.step.sv_step.Tie as tie
 use Rattle.capi.proofs.step.sv_step.Reads as reads
 use Rattle.capi.proofs.step.sv_step.Lts as lts
-use Rattle.capi.proofs.setup_of.Reads as setup-of-reads
+use Rattle.capi_setup.proofs.setup_of.Reads as setup-of-reads
 use Rattle.kernel_samples.proofs.frame.Reads as frame-reads
 use Rattle.voice_step.proofs.step.Reads as step-reads
 

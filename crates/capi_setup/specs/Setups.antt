@@ -1,6 +1,6 @@
 -- A setup from its row of numbers.
 use Rattle.model.specs.declared.Setup.{Setup}
-use Rattle.capi.specs.declared.SetupRow.{SetupRow}
+use Rattle.capi_setup.specs.declared.SetupRow.{SetupRow}
 
 abbrev pub setupOf : SetupRow → Setup
 setupOf row = record {

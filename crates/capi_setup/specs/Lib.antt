@@ -1,0 +1,2 @@
+-- What the contract cites beside the model: the setup that a row says.
+pub mod Setups
