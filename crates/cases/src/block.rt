@@ -1,9 +1,8 @@
-// A call of a block: its forces and samples, and what it answers.
+// A call of a block: setup, heights, stiffness, first, second, contact, turn, finger, forces, samples.
 use crate::arguments;
 use crate::report;
+use crate::words;
 use voice::BlockAnswer;
-use voice::Finger;
-use voice::Setup;
 use voice::play_block;
 
 fn report_answer(played: BlockAnswer) {
@@ -15,36 +14,29 @@ fn report_answer(played: BlockAnswer) {
     report::turn_and_finger(played.turn, finger);
 }
 
-// Reads forces and samples, plays a block and reports.
+// Plays a block on the lent buffers, and reports.
 pub fn play(
-    text: &[u8],
-    at: usize,
-    setup: Setup,
+    line: &[u8],
     heights: &[i32],
     stiffness: &[u16],
     first: &mut [i32],
     second: &mut [i32],
     contact: &mut [i32],
-    turn: u32,
-    finger: Finger,
 ) {
-    let mut forces = arguments::signed_room();
-    let mut lent = arguments::sample_room();
-    let forces_read = arguments::signed_list(text, at, &mut forces);
-    let samples_read = arguments::sample_list(text, forces_read.end, &mut lent);
-    let forces_count = forces_read.count;
-    let samples_count = samples_read.count;
-    let samples = &mut lent[..samples_count];
+    let mut forces_room = arguments::signed_room();
+    let mut samples_room = arguments::sample_room();
+    let forces = arguments::signed_list(line, 8, &mut forces_room);
+    let samples = arguments::sample_list(line, 9, &mut samples_room);
     report_answer(play_block(
-        setup,
+        arguments::setup(line),
         heights,
         stiffness,
         first,
         second,
         contact,
-        turn,
-        finger,
-        &forces[..forces_count],
+        words::unsigned(line, 6, 0),
+        arguments::finger(line, 7),
+        forces,
         samples,
     ));
     report::strings(first, second, contact);

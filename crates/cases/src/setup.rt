@@ -1,12 +1,10 @@
-// A call of setup.
+// A call of setup: setup.
 use crate::arguments;
 use voice::SetupAnswer;
 use voice::check_setup;
 
-pub fn answer(text: &[u8], at: usize) {
-    let read = arguments::setup(text, at);
-    let setup = read.setup;
-    let number = match check_setup(setup) {
+pub fn answer(line: &[u8]) {
+    let number = match check_setup(arguments::setup(line)) {
         SetupAnswer::Accepted(_) => 0,
         SetupAnswer::Refused(refusal) => refusal,
     };

@@ -1,8 +1,7 @@
-// A call of step: its forces, and what it answers.
+// A call of step: setup, heights, stiffness, first, second, contact, turn, finger, forces.
 use crate::arguments;
 use crate::report;
-use voice::Finger;
-use voice::Setup;
+use crate::words;
 use voice::StepAnswer;
 use voice::step;
 
@@ -19,32 +18,26 @@ fn report_answer(stepped: StepAnswer) {
     }
 }
 
-// Reads the forces, makes a step and reports.
+// Makes a step on the lent buffers, and reports.
 pub fn make(
-    text: &[u8],
-    at: usize,
-    setup: Setup,
+    line: &[u8],
     heights: &[i32],
     stiffness: &[u16],
     first: &mut [i32],
     second: &mut [i32],
     contact: &mut [i32],
-    turn: u32,
-    finger: Finger,
 ) {
-    let mut forces = [0i32; 2];
-    arguments::signed_list(text, at, &mut forces);
     report_answer(step(
-        setup,
+        arguments::setup(line),
         heights,
         stiffness,
         first,
         second,
         contact,
-        turn,
-        finger,
-        forces[0],
-        forces[1],
+        words::unsigned(line, 6, 0),
+        arguments::finger(line, 7),
+        words::signed(line, 8, 0),
+        words::signed(line, 8, 1),
     ));
     report::strings(first, second, contact);
 }

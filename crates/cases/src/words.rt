@@ -1,10 +1,11 @@
-// The words of a line: labels and whole numbers in decimal, with spaces between them.
+// The words of a line: an operation's name, then labels and whole numbers in decimal, with a space between any two. The numbers behind a
+// label are its list. Lists, and the numbers of a list, are counted from 0.
 ghost use Prim.Native.Nat.{_≤_, _<_};
 ghost use lib.ListN.{length};
 
-// The byte at a place of the text; a line feed past its end.
-fn byte_at(text: &[u8], at: usize) -> u8 {
-    if at < text.len() { text[at] } else { b'\n' }
+// The byte at a place of the line; a line feed past its end.
+pub fn byte_at(line: &[u8], at: usize) -> u8 {
+    if at < line.len() { line[at] } else { b'\n' }
 }
 
 // The start of the line after this one.
@@ -12,101 +13,114 @@ pub fn after_line(text: &[u8], at: usize) -> usize
     requires { ⌜ at < length (now text) ⌝ }
     ensures { λ r. ⌜ (at < r) × (r ≤ length (now (text .entry))) ⌝ }
 {
-    let mut i = at;
-    while i < text.len() {
+    for i in at..text.len() {
         if text[i] == b'\n' {
             return i + 1;
         }
-        i += 1;
     }
-    i
+    text.len()
 }
 
-// Whether the line has this word here.
-pub fn is_word(text: &[u8], at: usize, word: &[u8]) -> bool {
-    let mut i = 0;
-    let mut j = at;
-    while i < word.len() {
-        if byte_at(text, j) != word[i] {
-            return false;
+// The start of the next word.
+fn after_word(line: &[u8], at: usize) -> usize {
+    for i in at..line.len() {
+        if byte_at(line, i) == b' ' {
+            return i + 1;
         }
-        i += 1;
-        j = std::num::wrapping_add_usize(j, 1);
     }
-    byte_at(text, j) == b' '
+    line.len()
 }
 
-// Past the spaces, and then past the label.
-pub fn after_label(text: &[u8], at: usize) -> usize {
-    let mut i = after_spaces(text, at);
-    while i < text.len() {
-        if text[i] <= b' ' {
+// Whether a label comes behind this place.
+fn before_label(line: &[u8], at: usize) -> bool {
+    if byte_at(line, at) != b' ' {
+        return false;
+    }
+    byte_at(line, std::num::wrapping_add_usize(at, 1)) > b'9'
+}
+
+// Where a list starts.
+fn list_start(line: &[u8], list: usize) -> usize {
+    let mut left = list;
+    for at in 0..line.len() {
+        if before_label(line, at) {
+            if left == 0 {
+                return after_word(line, at + 1);
+            }
+            left -= 1;
+        }
+    }
+    line.len()
+}
+
+// Where a number of a list starts.
+fn number_start(line: &[u8], list: usize, number: usize) -> usize {
+    let mut at = list_start(line, list);
+    for _ in 0..number {
+        at = after_word(line, at);
+    }
+    at
+}
+
+// Whether a number starts here: a digit or a minus.
+fn is_number(byte: u8) -> bool {
+    if byte > b'9' {
+        return false;
+    }
+    byte > b','
+}
+
+// How many numbers a list has, but at most so many.
+pub fn count(line: &[u8], list: usize, most: usize) -> usize
+    ensures { λ r. ⌜ r ≤ most ⌝ }
+{
+    for i in 0..most {
+        if !is_number(byte_at(line, number_start(line, list, i))) {
             return i;
         }
-        i += 1;
     }
-    i
+    most
 }
 
-fn after_spaces(text: &[u8], at: usize) -> usize {
-    let mut i = at;
-    while i < text.len() {
-        if text[i] != b' ' {
-            return i;
-        }
-        i += 1;
-    }
-    i
-}
-
-// What the next word is.
-pub enum Word {
-    // A number: whether it has a minus, its size modulo 2^32, and where it ends.
-    Number(bool, u32, usize),
-    // A label, or the end of the line.
-    Other,
-}
-
-pub fn next_word(text: &[u8], at: usize) -> Word {
-    let start = after_spaces(text, at);
-    if byte_at(text, start) == b'-' {
-        return number(text, std::num::wrapping_add_usize(start, 1), true);
-    }
-    number(text, start, false)
-}
-
-// The digits that start here, as a number.
-fn number(text: &[u8], start: usize, negative: bool) -> Word {
-    let mut size: u32 = 0;
-    let mut i = start;
-    while i < text.len() {
-        let byte = text[i];
+// The digits that start here, as a number modulo 2^32.
+fn digits(line: &[u8], start: usize) -> u32 {
+    let mut size = 0;
+    for i in start..line.len() {
+        let byte = byte_at(line, i);
         if byte < b'0' {
-            break;
-        }
-        if byte > b'9' {
-            break;
+            return size;
         }
         size = with_digit(size, byte);
-        i += 1;
     }
-    if i == start {
-        Word::Other
-    } else {
-        Word::Number(negative, size, i)
-    }
+    size
 }
 
 // A number with a digit more, modulo 2^32.
-fn with_digit(size: u32, byte: u8) -> u32
-    requires { ⌜ (48 ≤ byte) × (byte ≤ 57) ⌝ }
-{
-    let digit = byte - b'0';
-    ((size as u64 * 10 + digit as u64) % 4294967296) as u32
+fn with_digit(size: u32, byte: u8) -> u32 {
+    ((size as u64 * 10 + (byte % 16) as u64) % 4294967296) as u32
+}
+
+// A number of a list, modulo 2^32.
+pub fn unsigned(line: &[u8], list: usize, number: usize) -> u32 {
+    digits(line, number_start(line, list, number))
+}
+
+// The same modulo 2^16.
+pub fn short(line: &[u8], list: usize, number: usize) -> u16 {
+    (unsigned(line, list, number) % 65536) as u16
+}
+
+// A number of a list that may have a minus.
+pub fn signed(line: &[u8], list: usize, number: usize) -> i32 {
+    let start = number_start(line, list, number);
+    if byte_at(line, start) == b'-' {
+        return with_sign(true, digits(line, std::num::wrapping_add_usize(start, 1)));
+    }
+    with_sign(false, digits(line, start))
 }
 
 // The number as a signed one; one that is no number of 31 bits and a sign is −2^31.
-pub fn signed(negative: bool, size: u32) -> i32 {
+fn with_sign(negative: bool, size: u32) -> i32 {
     if size > 2147483647 {
         return -2147483648;
     }
