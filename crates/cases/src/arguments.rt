@@ -1,38 +1,11 @@
 // The arguments of a call, read from its line: lists of numbers, setup and finger.
-ghost use mathlib.Core.Path.{_≡_};
-ghost use lib.ListN.{length};
 use crate::words;
 use voice::Finger;
 use voice::FingerSetup;
 use voice::Setup;
 
-// Room for a list. The length is what lending it asks.
-pub fn signed_room() -> [i32; 130]
-    ensures { λ r. ⌜ 130 ≡ length r ⌝ }
-{
-    [0; 130]
-}
-
-pub fn unsigned_room() -> [u32; 30]
-    ensures { λ r. ⌜ 30 ≡ length r ⌝ }
-{
-    [0; 30]
-}
-
-pub fn short_room() -> [u16; 130]
-    ensures { λ r. ⌜ 130 ≡ length r ⌝ }
-{
-    [0; 130]
-}
-
-pub fn sample_room() -> [f32; 130]
-    ensures { λ r. ⌜ 130 ≡ length r ⌝ }
-{
-    [0.0; 130]
-}
-
 // Writes a list to the front of `room`, as much of it as fits there, and answers that part.
-pub fn signed_list<'a>(line: &[u8], list: usize, room: &'a mut [i32]) -> &'a mut [i32] {
+pub fn signed_list<'a>(line: &[u8], list: u32, room: &'a mut [i32]) -> &'a mut [i32] {
     let count = words::count(line, list, room.len());
     for i in 0..count {
         room[i] = words::signed(line, list, i);
@@ -40,7 +13,7 @@ pub fn signed_list<'a>(line: &[u8], list: usize, room: &'a mut [i32]) -> &'a mut
     &mut room[..count]
 }
 
-pub fn unsigned_list<'a>(line: &[u8], list: usize, room: &'a mut [u32]) -> &'a mut [u32] {
+pub fn unsigned_list<'a>(line: &[u8], list: u32, room: &'a mut [u32]) -> &'a mut [u32] {
     let count = words::count(line, list, room.len());
     for i in 0..count {
         room[i] = words::unsigned(line, list, i);
@@ -48,7 +21,7 @@ pub fn unsigned_list<'a>(line: &[u8], list: usize, room: &'a mut [u32]) -> &'a m
     &mut room[..count]
 }
 
-pub fn short_list<'a>(line: &[u8], list: usize, room: &'a mut [u16]) -> &'a mut [u16] {
+pub fn short_list<'a>(line: &[u8], list: u32, room: &'a mut [u16]) -> &'a mut [u16] {
     let count = words::count(line, list, room.len());
     for i in 0..count {
         room[i] = words::short(line, list, i);
@@ -57,7 +30,7 @@ pub fn short_list<'a>(line: &[u8], list: usize, room: &'a mut [u16]) -> &'a mut 
 }
 
 // Whole numbers as samples.
-pub fn sample_list<'a>(line: &[u8], list: usize, room: &'a mut [f32]) -> &'a mut [f32] {
+pub fn sample_list<'a>(line: &[u8], list: u32, room: &'a mut [f32]) -> &'a mut [f32] {
     let count = words::count(line, list, room.len());
     for i in 0..count {
         room[i] = words::short(line, list, i) as f32;
@@ -85,7 +58,7 @@ pub fn setup(line: &[u8]) -> Setup {
 }
 
 // A list as a finger: its newer height, older height and contact variable.
-pub fn finger(line: &[u8], list: usize) -> Finger {
+pub fn finger(line: &[u8], list: u32) -> Finger {
     Finger {
         newer: words::signed(line, list, 0),
         older: words::signed(line, list, 1),

@@ -5,7 +5,6 @@ ghost use lib.ListN.{length};
 
 mod arguments;
 mod block;
-mod lent;
 mod neck;
 mod newest;
 mod reading;
@@ -21,8 +20,8 @@ fn answer(line: &[u8]) {
         b'u' => setup::answer(line),
         b'k' => neck::answer(line),
         b'r' => start::answer(line),
-        b'p' => lent::answer(line, false),
-        b'c' => lent::answer(line, true),
+        b'p' => step::answer(line),
+        b'c' => block::answer(line),
         b'e' => newest::answer(line),
         _ => reading::answer(line),
     }

@@ -5,22 +5,18 @@ use crate::words;
 use voice::NeckAnswer;
 use voice::lay_neck;
 
-// The two buffers that are written.
-pub fn answer(line: &[u8]) {
-    let mut heights_room = arguments::signed_room();
-    let mut stiffness_room = arguments::short_room();
-    let heights = arguments::signed_list(line, 6, &mut heights_room);
-    let stiffness = arguments::short_list(line, 7, &mut stiffness_room);
-    lay(line, heights, stiffness);
-    report::signed_list(b" heights", heights);
-    printing::text(b" stiffness");
-    printing::unsigned_list(stiffness);
+fn report_answer(answer: NeckAnswer) {
+    match answer {
+        NeckAnswer::Accepted => report::number(0),
+        NeckAnswer::Refused(refusal) => report::number(refusal),
+    }
 }
 
-// Lays the neck, and reports the answer.
-fn lay(line: &[u8], heights: &mut [i32], stiffness: &mut [u16]) {
-    let mut board_room = arguments::signed_room();
-    let mut frets_room = arguments::unsigned_room();
+pub fn answer(line: &[u8]) {
+    let mut board_room = [0; 130];
+    let mut frets_room = [0; 30];
+    let mut heights = [0; 130];
+    let mut stiffness = [0; 130];
     let board = arguments::signed_list(line, 1, &mut board_room);
     let frets = arguments::unsigned_list(line, 3, &mut frets_room);
     report_answer(lay_neck(
@@ -30,15 +26,9 @@ fn lay(line: &[u8], heights: &mut [i32], stiffness: &mut [u16]) {
         frets,
         words::signed(line, 4, 0),
         words::short(line, 5, 0),
-        heights,
-        stiffness,
+        arguments::signed_list(line, 6, &mut heights),
+        arguments::short_list(line, 7, &mut stiffness),
     ));
-}
-
-fn report_answer(answer: NeckAnswer) {
-    let number = match answer {
-        NeckAnswer::Accepted => 0,
-        NeckAnswer::Refused(refusal) => refusal,
-    };
-    printing::unsigned(number as u64);
+    report::signed_list(line, 6, heights);
+    report::short_list(line, 7, stiffness);
 }

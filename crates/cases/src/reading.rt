@@ -1,29 +1,30 @@
 // A call of reading a place: setup, heights, first, second, turn, place.
 use crate::arguments;
+use crate::report;
 use crate::words;
 use voice::Reading;
 use voice::read_place;
 
+fn labelled(label: &[u8], number: f64) {
+    printing::text(label);
+    printing::double(number);
+}
+
 fn report_answer(reading: Reading) {
     match reading {
-        Reading::Free(displacement) => {
-            printing::text(b"free ");
-            printing::double(displacement);
-        }
+        Reading::Free(displacement) => labelled(b"free ", displacement),
         Reading::Pressed(displacement, depth) => {
-            printing::text(b"pressed ");
-            printing::double(displacement);
-            printing::text(b" ");
-            printing::double(depth);
+            labelled(b"pressed ", displacement);
+            labelled(b" ", depth);
         }
-        Reading::Refused(number) => printing::unsigned(number as u64),
+        Reading::Refused(refusal) => report::number(refusal),
     }
 }
 
 pub fn answer(line: &[u8]) {
-    let mut heights_room = arguments::signed_room();
-    let mut first_room = arguments::signed_room();
-    let mut second_room = arguments::signed_room();
+    let mut heights_room = [0; 130];
+    let mut first_room = [0; 130];
+    let mut second_room = [0; 130];
     let heights = arguments::signed_list(line, 1, &mut heights_room);
     let first = arguments::signed_list(line, 2, &mut first_room);
     let second = arguments::signed_list(line, 3, &mut second_room);

@@ -2,42 +2,48 @@
 use crate::arguments;
 use crate::report;
 use crate::words;
+use voice::Frame;
 use voice::StepAnswer;
 use voice::step;
+
+fn report_frame(frame: Frame) {
+    printing::text(b" frame");
+    printing::single_list(&[frame.bridge, frame.neck]);
+}
 
 fn report_answer(stepped: StepAnswer) {
     match stepped {
         StepAnswer::Accepted(made) => {
-            printing::text(b"0");
             let finger = made.finger;
-            report::turn_and_finger(made.turn, finger);
-            printing::text(b" frame");
-            printing::single_list(&[made.frame.bridge, made.frame.neck]);
+            let frame = made.frame;
+            report::accepted(made.turn, finger);
+            report_frame(frame);
         }
-        StepAnswer::Refused(number) => printing::unsigned(number as u64),
+        StepAnswer::Refused(refusal) => report::number(refusal),
     }
 }
 
-// Makes a step on the lent buffers, and reports.
-pub fn make(
-    line: &[u8],
-    heights: &[i32],
-    stiffness: &[u16],
-    first: &mut [i32],
-    second: &mut [i32],
-    contact: &mut [i32],
-) {
+pub fn answer(line: &[u8]) {
+    let mut heights_room = [0; 130];
+    let mut stiffness_room = [0; 130];
+    let mut first = [0; 130];
+    let mut second = [0; 130];
+    let mut contact = [0; 130];
+    let heights = arguments::signed_list(line, 1, &mut heights_room);
+    let stiffness = arguments::short_list(line, 2, &mut stiffness_room);
     report_answer(step(
         arguments::setup(line),
         heights,
         stiffness,
-        first,
-        second,
-        contact,
+        arguments::signed_list(line, 3, &mut first),
+        arguments::signed_list(line, 4, &mut second),
+        arguments::signed_list(line, 5, &mut contact),
         words::unsigned(line, 6, 0),
         arguments::finger(line, 7),
         words::signed(line, 8, 0),
         words::signed(line, 8, 1),
     ));
-    report::strings(first, second, contact);
+    report::signed_list(line, 3, first);
+    report::signed_list(line, 4, second);
+    report::signed_list(line, 5, contact);
 }

@@ -21,73 +21,70 @@ pub fn after_line(text: &[u8], at: usize) -> usize
     text.len()
 }
 
-// The start of the next word.
-fn after_word(line: &[u8], at: usize) -> usize {
-    for i in at..line.len() {
-        if byte_at(line, i) == b' ' {
-            return i + 1;
-        }
-    }
-    line.len()
+// Words are numbered: a list's label has the list's number times 1024, and 1024 more, and its numbers follow. This is the number of the word
+// that starts with this byte, behind the word of this number.
+fn next_word(word: usize, byte: u8) -> usize {
+    let last = if byte > b'9' { word | 1023 } else { word };
+    std::num::wrapping_add_usize(last, 1)
 }
 
-// Whether a label comes behind this place.
-fn before_label(line: &[u8], at: usize) -> bool {
-    if byte_at(line, at) != b' ' {
-        return false;
-    }
-    byte_at(line, std::num::wrapping_add_usize(at, 1)) > b'9'
-}
-
-// Where a list starts.
-fn list_start(line: &[u8], list: usize) -> usize {
-    let mut left = list;
+// Where the word of this number starts; the line's end if there is none.
+fn start(line: &[u8], word: usize) -> usize {
+    let mut here = 0;
     for at in 0..line.len() {
-        if before_label(line, at) {
-            if left == 0 {
-                return after_word(line, at + 1);
+        if byte_at(line, at) == b' ' {
+            here = next_word(here, byte_at(line, at + 1));
+            if here == word {
+                return at + 1;
             }
-            left -= 1;
         }
     }
     line.len()
 }
 
 // Where a number of a list starts.
-fn number_start(line: &[u8], list: usize, number: usize) -> usize {
-    let mut at = list_start(line, list);
-    for _ in 0..number {
-        at = after_word(line, at);
-    }
-    at
-}
-
-// Whether a number starts here: a digit or a minus.
-fn is_number(byte: u8) -> bool {
-    if byte > b'9' {
-        return false;
-    }
-    byte > b','
+fn number_start(line: &[u8], list: u32, number: usize) -> usize {
+    start(
+        line,
+        std::num::wrapping_add_usize(list as usize * 1024 + 1025, number),
+    )
 }
 
 // How many numbers a list has, but at most so many.
-pub fn count(line: &[u8], list: usize, most: usize) -> usize
+pub fn count(line: &[u8], list: u32, most: usize) -> usize
     ensures { λ r. ⌜ r ≤ most ⌝ }
 {
     for i in 0..most {
-        if !is_number(byte_at(line, number_start(line, list, i))) {
+        if number_start(line, list, i) == line.len() {
             return i;
         }
     }
     most
 }
 
-// The digits that start here, as a number modulo 2^32.
+// Prints the word that starts here.
+fn print_word(line: &[u8], start: usize) {
+    for i in start..line.len() {
+        let byte = byte_at(line, i);
+        if byte <= b' ' {
+            return;
+        }
+        printing::text(&[byte]);
+    }
+}
+
+// Prints a list's label, behind a space.
+pub fn print_label(line: &[u8], list: u32) {
+    printing::text(b" ");
+    print_word(line, start(line, list as usize * 1024 + 1024));
+}
+
+// The digits of the word that starts here, as a number modulo 2^32.
 fn digits(line: &[u8], start: usize) -> u32 {
     let mut size = 0;
     for i in start..line.len() {
         let byte = byte_at(line, i);
-        if byte < b'0' {
+        if byte <= b' ' {
             return size;
         }
         size = with_digit(size, byte);
@@ -95,28 +92,28 @@ fn digits(line: &[u8], start: usize) -> u32 {
     size
 }
 
-// A number with a digit more, modulo 2^32.
+// A number with a digit more, modulo 2^32; a minus is no digit.
 fn with_digit(size: u32, byte: u8) -> u32 {
+    if byte == b'-' {
+        return size;
+    }
     ((size as u64 * 10 + (byte % 16) as u64) % 4294967296) as u32
 }
 
 // A number of a list, modulo 2^32.
-pub fn unsigned(line: &[u8], list: usize, number: usize) -> u32 {
+pub fn unsigned(line: &[u8], list: u32, number: usize) -> u32 {
     digits(line, number_start(line, list, number))
 }
 
 // The same modulo 2^16.
-pub fn short(line: &[u8], list: usize, number: usize) -> u16 {
+pub fn short(line: &[u8], list: u32, number: usize) -> u16 {
     (unsigned(line, list, number) % 65536) as u16
 }
 
 // A number of a list that may have a minus.
-pub fn signed(line: &[u8], list: usize, number: usize) -> i32 {
+pub fn signed(line: &[u8], list: u32, number: usize) -> i32 {
     let start = number_start(line, list, number);
-    if byte_at(line, start) == b'-' {
-        return with_sign(true, digits(line, std::num::wrapping_add_usize(start, 1)));
-    }
-    with_sign(false, digits(line, start))
+    with_sign(byte_at(line, start) == b'-', digits(line, start))
 }
 
 // The number as a signed one; one that is no number of 31 bits and a sign is −2^31.

@@ -18,8 +18,6 @@ count-spec =
     μ-loop
     (λ c. omega arith)
     (λ c κs. tt)
-    (λ c κs. tt)
-    (λ c κs. tt)
     (λ c. omega arith)
     (λ c. omega arith)
     (λ c. omega arith)
