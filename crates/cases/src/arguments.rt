@@ -1,156 +1,67 @@
-// The arguments of a call: lists of numbers, each under its label, and what is made of such lists.
-ghost use mathlib.Core.Path.{_≡_};
-ghost use lib.ListN.{length};
-ghost use Rattle.cases.specs.Counted.{Counted};
-use crate::words::Word;
-use crate::words::after_label;
-use crate::words::next_word;
-use crate::words::signed;
+// The arguments of a call, read from its line: lists of numbers, setup and finger.
+use crate::words;
 use voice::Finger;
 use voice::FingerSetup;
 use voice::Setup;
 
-// Room for a list. The length is what lending a part of it asks.
-pub fn signed_room() -> [i32; 130]
-    ensures { λ r. ⌜ 130 ≡ length r ⌝ }
-{
-    [0; 130]
-}
-
-pub fn unsigned_room() -> [u32; 30]
-    ensures { λ r. ⌜ 30 ≡ length r ⌝ }
-{
-    [0; 30]
-}
-
-pub fn short_room() -> [u16; 130]
-    ensures { λ r. ⌜ 130 ≡ length r ⌝ }
-{
-    [0; 130]
-}
-
-pub fn sample_room() -> [f32; 130]
-    ensures { λ r. ⌜ 130 ≡ length r ⌝ }
-{
-    [0.0; 130]
-}
-
-// A list that was read: how many numbers it has, and where it ends.
-pub struct List {
-    pub count: usize,
-    pub end: usize,
-}
-
-// Reads the list under the label that comes next into the front of `out`, as much of it as fits there.
-pub fn signed_list(text: &[u8], at: usize, out: &mut [i32]) -> List
-    ensures { λ r. ⌜ Counted (r .count) (now (out .exit)) ⌝ }
-{
-    let mut count = 0;
-    let mut end = after_label(text, at);
-    while count < out.len() {
-        let Word::Number(negative, size, past) = next_word(text, end) else {
-            break;
-        };
-        out[count] = signed(negative, size);
-        count += 1;
-        end = past;
+// Writes a list to the front of `room`, as much of it as fits there, and answers that part.
+pub fn signed_list<'a>(line: &[u8], list: u32, room: &'a mut [i32]) -> &'a mut [i32] {
+    let count = words::count(line, list, room.len());
+    for i in 0..count {
+        room[i] = words::signed(line, list, i);
     }
-    List { count, end }
+    &mut room[..count]
 }
 
-pub fn unsigned_list(text: &[u8], at: usize, out: &mut [u32]) -> List
-    ensures { λ r. ⌜ Counted (r .count) (now (out .exit)) ⌝ }
-{
-    let mut count = 0;
-    let mut end = after_label(text, at);
-    while count < out.len() {
-        let Word::Number(_, size, past) = next_word(text, end) else {
-            break;
-        };
-        out[count] = size;
-        count += 1;
-        end = past;
+pub fn unsigned_list<'a>(line: &[u8], list: u32, room: &'a mut [u32]) -> &'a mut [u32] {
+    let count = words::count(line, list, room.len());
+    for i in 0..count {
+        room[i] = words::unsigned(line, list, i);
     }
-    List { count, end }
+    &mut room[..count]
 }
 
-pub fn short_list(text: &[u8], at: usize, out: &mut [u16]) -> List
-    ensures { λ r. ⌜ Counted (r .count) (now (out .exit)) ⌝ }
-{
-    let mut count = 0;
-    let mut end = after_label(text, at);
-    while count < out.len() {
-        let Word::Number(_, size, past) = next_word(text, end) else {
-            break;
-        };
-        out[count] = (size % 65536) as u16;
-        count += 1;
-        end = past;
+pub fn short_list<'a>(line: &[u8], list: u32, room: &'a mut [u16]) -> &'a mut [u16] {
+    let count = words::count(line, list, room.len());
+    for i in 0..count {
+        room[i] = words::short(line, list, i);
     }
-    List { count, end }
+    &mut room[..count]
 }
 
 // Whole numbers as samples.
-pub fn sample_list(text: &[u8], at: usize, out: &mut [f32]) -> List
-    ensures { λ r. ⌜ Counted (r .count) (now (out .exit)) ⌝ }
-{
-    let mut count = 0;
-    let mut end = after_label(text, at);
-    while count < out.len() {
-        let Word::Number(_, size, past) = next_word(text, end) else {
-            break;
-        };
-        out[count] = (size % 65536) as u16 as f32;
-        count += 1;
-        end = past;
+pub fn sample_list<'a>(line: &[u8], list: u32, room: &'a mut [f32]) -> &'a mut [f32] {
+    let count = words::count(line, list, room.len());
+    for i in 0..count {
+        room[i] = words::short(line, list, i) as f32;
     }
-    List { count, end }
+    &mut room[..count]
 }
 
-pub struct SetupRead {
-    pub setup: Setup,
-    pub end: usize,
-}
-
-// A setup's eleven fields, in 01's order.
-pub fn setup(text: &[u8], at: usize) -> SetupRead {
-    let mut fields = [0u32; 11];
-    let list = unsigned_list(text, at, &mut fields);
-    SetupRead {
-        setup: Setup {
-            segments: fields[0],
-            tension: fields[1],
-            stiffness: fields[2],
-            viscous: fields[3],
-            plain: fields[4],
-            finger: FingerSetup {
-                stiffness: (fields[5] % 65536) as u16,
-                mass: fields[6],
-                place: fields[7],
-            },
-            pluck_place: fields[8],
-            bridge_place: fields[9],
-            neck_place: fields[10],
+// The list 0 as a setup: its eleven fields, in 01's order.
+pub fn setup(line: &[u8]) -> Setup {
+    Setup {
+        segments: words::unsigned(line, 0, 0),
+        tension: words::unsigned(line, 0, 1),
+        stiffness: words::unsigned(line, 0, 2),
+        viscous: words::unsigned(line, 0, 3),
+        plain: words::unsigned(line, 0, 4),
+        finger: FingerSetup {
+            stiffness: words::short(line, 0, 5),
+            mass: words::unsigned(line, 0, 6),
+            place: words::unsigned(line, 0, 7),
         },
-        end: list.end,
+        pluck_place: words::unsigned(line, 0, 8),
+        bridge_place: words::unsigned(line, 0, 9),
+        neck_place: words::unsigned(line, 0, 10),
     }
 }
 
-pub struct FingerRead {
-    pub finger: Finger,
-    pub end: usize,
-}
-
-// A finger's newer height, older height and contact variable.
-pub fn finger(text: &[u8], at: usize) -> FingerRead {
-    let mut fields = [0i32; 3];
-    let list = signed_list(text, at, &mut fields);
-    FingerRead {
-        finger: Finger {
-            newer: fields[0],
-            older: fields[1],
-            contact: fields[2],
-        },
-        end: list.end,
+// A list as a finger: its newer height, older height and contact variable.
+pub fn finger(line: &[u8], list: u32) -> Finger {
+    Finger {
+        newer: words::signed(line, list, 0),
+        older: words::signed(line, list, 1),
+        contact: words::signed(line, list, 2),
     }
 }

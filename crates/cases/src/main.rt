@@ -5,7 +5,6 @@ ghost use lib.ListN.{length};
 
 mod arguments;
 mod block;
-mod lent;
 mod neck;
 mod newest;
 mod reading;
@@ -15,31 +14,26 @@ mod start;
 mod step;
 mod words;
 
-// Answers the call that starts here.
-fn answer(text: &[u8], at: usize) {
-    let arguments = words::after_label(text, at);
-    if words::is_word(text, at, b"setup") {
-        setup::answer(text, arguments);
-    }
-    if words::is_word(text, at, b"neck") {
-        neck::answer(text, arguments);
-    }
-    if words::is_word(text, at, b"start") {
-        start::answer(text, arguments);
-    }
-    if words::is_word(text, at, b"step") {
-        lent::answer(text, arguments, false);
-    }
-    if words::is_word(text, at, b"block") {
-        lent::answer(text, arguments, true);
-    }
-    if words::is_word(text, at, b"newest") {
-        newest::answer(text, arguments);
-    }
-    if words::is_word(text, at, b"reading") {
-        reading::answer(text, arguments);
+// Answers the call of a line. An operation is known by the fourth letter of its name.
+fn answer(line: &[u8]) {
+    match words::byte_at(line, 3) {
+        b'u' => setup::answer(line),
+        b'k' => neck::answer(line),
+        b'r' => start::answer(line),
+        b'p' => step::answer(line),
+        b'c' => block::answer(line),
+        b'e' => newest::answer(line),
+        _ => reading::answer(line),
     }
     printing::text(b"\n");
+}
+
+fn answer_or_print(line: &[u8]) {
+    if words::byte_at(line, 0) == b'#' {
+        printing::text(line);
+    } else {
+        answer(line);
+    }
 }
 
 // Answers every call of the text.
@@ -47,11 +41,7 @@ fn answer_all(text: &[u8]) {
     let mut at = 0;
     while at < text.len() {
         let next = words::after_line(text, at);
-        if text[at] == b'#' {
-            printing::text(&text[at..next]);
-        } else {
-            answer(text, at);
-        }
+        answer_or_print(&text[at..next]);
         at = next;
     }
 }

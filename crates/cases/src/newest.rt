@@ -1,17 +1,17 @@
-// A call of the newest string.
+// A call of the newest string: first, second, turn.
 use crate::arguments;
-use crate::report;
+use crate::words;
 use voice::newest;
 
-pub fn answer(text: &[u8], at: usize) {
-    let mut first = arguments::signed_room();
-    let mut second = arguments::signed_room();
-    let mut turn = [0u32; 1];
-    let first_read = arguments::signed_list(text, at, &mut first);
-    let second_read = arguments::signed_list(text, first_read.end, &mut second);
-    arguments::unsigned_list(text, second_read.end, &mut turn);
-    let first_count = first_read.count;
-    let second_count = second_read.count;
-    let string = newest(&first[..first_count], &second[..second_count], turn[0]);
-    report::signed_list(b"string", string);
+fn report_string(string: &[i32]) {
+    printing::text(b"string");
+    printing::signed_list(string);
+}
+
+pub fn answer(line: &[u8]) {
+    let mut first_room = [0; 130];
+    let mut second_room = [0; 130];
+    let first = arguments::signed_list(line, 0, &mut first_room);
+    let second = arguments::signed_list(line, 1, &mut second_room);
+    report_string(newest(first, second, words::unsigned(line, 2, 0)));
 }

@@ -1,14 +1,12 @@
-// A call of setup.
+// A call of setup: setup.
 use crate::arguments;
+use crate::report;
 use voice::SetupAnswer;
 use voice::check_setup;
 
-pub fn answer(text: &[u8], at: usize) {
-    let read = arguments::setup(text, at);
-    let setup = read.setup;
-    let number = match check_setup(setup) {
-        SetupAnswer::Accepted(_) => 0,
-        SetupAnswer::Refused(refusal) => refusal,
-    };
-    printing::unsigned(number as u64);
+pub fn answer(line: &[u8]) {
+    match check_setup(arguments::setup(line)) {
+        SetupAnswer::Accepted(_) => report::number(0),
+        SetupAnswer::Refused(refusal) => report::number(refusal),
+    }
 }

@@ -1,50 +1,49 @@
-// A call of step: its forces, and what it answers.
+// A call of step: setup, heights, stiffness, first, second, contact, turn, finger, forces.
 use crate::arguments;
 use crate::report;
-use voice::Finger;
-use voice::Setup;
+use crate::words;
+use voice::Frame;
 use voice::StepAnswer;
 use voice::step;
+
+fn report_frame(frame: Frame) {
+    printing::text(b" frame");
+    printing::single_list(&[frame.bridge, frame.neck]);
+}
 
 fn report_answer(stepped: StepAnswer) {
     match stepped {
         StepAnswer::Accepted(made) => {
-            printing::text(b"0");
             let finger = made.finger;
-            report::turn_and_finger(made.turn, finger);
-            printing::text(b" frame");
-            printing::single_list(&[made.frame.bridge, made.frame.neck]);
+            let frame = made.frame;
+            report::accepted(made.turn, finger);
+            report_frame(frame);
         }
-        StepAnswer::Refused(number) => printing::unsigned(number as u64),
+        StepAnswer::Refused(refusal) => report::number(refusal),
     }
 }
 
-// Reads the forces, makes a step and reports.
-pub fn make(
-    text: &[u8],
-    at: usize,
-    setup: Setup,
-    heights: &[i32],
-    stiffness: &[u16],
-    first: &mut [i32],
-    second: &mut [i32],
-    contact: &mut [i32],
-    turn: u32,
-    finger: Finger,
-) {
-    let mut forces = [0i32; 2];
-    arguments::signed_list(text, at, &mut forces);
+pub fn answer(line: &[u8]) {
+    let mut heights_room = [0; 130];
+    let mut stiffness_room = [0; 130];
+    let mut first = [0; 130];
+    let mut second = [0; 130];
+    let mut contact = [0; 130];
+    let heights = arguments::signed_list(line, 1, &mut heights_room);
+    let stiffness = arguments::short_list(line, 2, &mut stiffness_room);
     report_answer(step(
-        setup,
+        arguments::setup(line),
         heights,
         stiffness,
-        first,
-        second,
-        contact,
-        turn,
-        finger,
-        forces[0],
-        forces[1],
+        arguments::signed_list(line, 3, &mut first),
+        arguments::signed_list(line, 4, &mut second),
+        arguments::signed_list(line, 5, &mut contact),
+        words::unsigned(line, 6, 0),
+        arguments::finger(line, 7),
+        words::signed(line, 8, 0),
+        words::signed(line, 8, 1),
     ));
-    report::strings(first, second, contact);
+    report::signed_list(line, 3, first);
+    report::signed_list(line, 4, second);
+    report::signed_list(line, 5, contact);
 }

@@ -1,10 +1,11 @@
-// The words of a line: labels and whole numbers in decimal, with spaces between them.
+// The words of a line: an operation's name, then labels and whole numbers in decimal, with a space between any two. The numbers behind a
+// label are its list. Lists, and the numbers of a list, are counted from 0.
 ghost use Prim.Native.Nat.{_≤_, _<_};
 ghost use lib.ListN.{length};
 
-// The byte at a place of the text; a line feed past its end.
-fn byte_at(text: &[u8], at: usize) -> u8 {
-    if at < text.len() { text[at] } else { b'\n' }
+// The byte at a place of the line; a line feed past its end.
+pub fn byte_at(line: &[u8], at: usize) -> u8 {
+    if at < line.len() { line[at] } else { b'\n' }
 }
 
 // The start of the line after this one.
@@ -12,101 +13,111 @@ pub fn after_line(text: &[u8], at: usize) -> usize
     requires { ⌜ at < length (now text) ⌝ }
     ensures { λ r. ⌜ (at < r) × (r ≤ length (now (text .entry))) ⌝ }
 {
-    let mut i = at;
-    while i < text.len() {
+    for i in at..text.len() {
         if text[i] == b'\n' {
             return i + 1;
         }
-        i += 1;
     }
-    i
+    text.len()
 }
 
-// Whether the line has this word here.
-pub fn is_word(text: &[u8], at: usize, word: &[u8]) -> bool {
-    let mut i = 0;
-    let mut j = at;
-    while i < word.len() {
-        if byte_at(text, j) != word[i] {
-            return false;
+// Words are numbered: a list's label has the list's number times 1024, and 1024 more, and its numbers follow. This is the number of the word
+// that starts with this byte, behind the word of this number.
+fn next_word(word: usize, byte: u8) -> usize {
+    let last = if byte > b'9' { word | 1023 } else { word };
+    std::num::wrapping_add_usize(last, 1)
+}
+
+// Where the word of this number starts; the line's end if there is none.
+fn start(line: &[u8], word: usize) -> usize {
+    let mut here = 0;
+    for at in 0..line.len() {
+        if byte_at(line, at) == b' ' {
+            here = next_word(here, byte_at(line, at + 1));
+            if here == word {
+                return at + 1;
+            }
         }
-        i += 1;
-        j = std::num::wrapping_add_usize(j, 1);
     }
-    byte_at(text, j) == b' '
+    line.len()
 }
 
-// Past the spaces, and then past the label.
-pub fn after_label(text: &[u8], at: usize) -> usize {
-    let mut i = after_spaces(text, at);
-    while i < text.len() {
-        if text[i] <= b' ' {
+// Where a number of a list starts.
+fn number_start(line: &[u8], list: u32, number: usize) -> usize {
+    start(
+        line,
+        std::num::wrapping_add_usize(list as usize * 1024 + 1025, number),
+    )
+}
+
+// How many numbers a list has, but at most so many.
+pub fn count(line: &[u8], list: u32, most: usize) -> usize
+    ensures { λ r. ⌜ r ≤ most ⌝ }
+{
+    for i in 0..most {
+        if number_start(line, list, i) == line.len() {
             return i;
         }
-        i += 1;
     }
-    i
+    most
 }
 
-fn after_spaces(text: &[u8], at: usize) -> usize {
-    let mut i = at;
-    while i < text.len() {
-        if text[i] != b' ' {
-            return i;
+// Prints the word that starts here.
+fn print_word(line: &[u8], start: usize) {
+    for i in start..line.len() {
+        let byte = byte_at(line, i);
+        if byte <= b' ' {
+            return;
         }
-        i += 1;
+        printing::text(&[byte]);
     }
-    i
 }
 
-// What the next word is.
-pub enum Word {
-    // A number: whether it has a minus, its size modulo 2^32, and where it ends.
-    Number(bool, u32, usize),
-    // A label, or the end of the line.
-    Other,
+// Prints a list's label, behind a space.
+pub fn print_label(line: &[u8], list: u32) {
+    printing::text(b" ");
+    print_word(line, start(line, list as usize * 1024 + 1024));
 }
 
-pub fn next_word(text: &[u8], at: usize) -> Word {
-    let start = after_spaces(text, at);
-    if byte_at(text, start) == b'-' {
-        return number(text, std::num::wrapping_add_usize(start, 1), true);
-    }
-    number(text, start, false)
-}
-
-// The digits that start here, as a number.
-fn number(text: &[u8], start: usize, negative: bool) -> Word {
-    let mut size: u32 = 0;
-    let mut i = start;
-    while i < text.len() {
-        let byte = text[i];
-        if byte < b'0' {
-            break;
-        }
-        if byte > b'9' {
-            break;
+// The digits of the word that starts here, as a number modulo 2^32.
+fn digits(line: &[u8], start: usize) -> u32 {
+    let mut size = 0;
+    for i in start..line.len() {
+        let byte = byte_at(line, i);
+        if byte <= b' ' {
+            return size;
         }
         size = with_digit(size, byte);
-        i += 1;
     }
-    if i == start {
-        Word::Other
-    } else {
-        Word::Number(negative, size, i)
-    }
+    size
 }
 
-// A number with a digit more, modulo 2^32.
-fn with_digit(size: u32, byte: u8) -> u32
-    requires { ⌜ (48 ≤ byte) × (byte ≤ 57) ⌝ }
-{
-    let digit = byte - b'0';
-    ((size as u64 * 10 + digit as u64) % 4294967296) as u32
+// A number with a digit more, modulo 2^32; a minus is no digit.
+fn with_digit(size: u32, byte: u8) -> u32 {
+    if byte == b'-' {
+        return size;
+    }
+    ((size as u64 * 10 + (byte % 16) as u64) % 4294967296) as u32
+}
+
+// A number of a list, modulo 2^32.
+pub fn unsigned(line: &[u8], list: u32, number: usize) -> u32 {
+    digits(line, number_start(line, list, number))
+}
+
+// The same modulo 2^16.
+pub fn short(line: &[u8], list: u32, number: usize) -> u16 {
+    (unsigned(line, list, number) % 65536) as u16
+}
+
+// A number of a list that may have a minus.
+pub fn signed(line: &[u8], list: u32, number: usize) -> i32 {
+    let start = number_start(line, list, number);
+    with_sign(byte_at(line, start) == b'-', digits(line, start))
 }
 
 // The number as a signed one; one that is no number of 31 bits and a sign is −2^31.
-pub fn signed(negative: bool, size: u32) -> i32 {
+fn with_sign(negative: bool, size: u32) -> i32 {
     if size > 2147483647 {
         return -2147483648;
     }

@@ -1,18 +1,18 @@
--- The numbers read fit the array, which keeps its length.
-use mathlib.Core.Path.{refl}
-use Prim.Native.Nat.{_-_}
+-- The numbers read fit the room, which keeps its length.
+use mathlib.Core.Path.{sym}
+use Prim.Native.Nat.{_-_, _≤_}
 use native.Mathlib.Omega.{arith}
 use borrow.Author.Needs.{needs}
-use lib.ListN.{length}
-use Rattle.cases.proofs.Lists.{SoFar, one-more, counted}
+use lib.ListN.{length, length-set}
+use lib.Seq.{length-take-le}
 use Rattle.cases.proofs.arguments.unsigned_list.Statement.{statement}
 use Rattle.cases.proofs.arguments.unsigned_list.Tie as tie
 
 abbrev Inv-loop : tie.InvT-loop
-Inv-loop text at out₀ count₀ end₀ out count end = SoFar out₀ out count
+Inv-loop line list room₀ count i₀ room i = count ≤ length room
 
 abbrev μ-loop : tie.MeasureT-loop
-μ-loop text at out₀ count₀ end₀ out count end = length out₀ - count
+μ-loop line list room₀ count i₀ room i = count - i
 
 pub unsigned-list-spec : {M : Type 1} → statement M
 unsigned-list-spec =
@@ -21,16 +21,12 @@ unsigned-list-spec =
     Inv-loop
     μ-loop
     (λ c κs. tt)
-    (λ c. record { as-long = refl; within = omega arith })
+    (λ c. omega arith)
     (λ c κs. tt)
     (λ c. search needs)
-    (λ c. search needs)
     (λ c. omega arith)
     (λ c. omega arith)
     (λ c. omega arith)
-    (λ c. omega arith)
-    (λ c. one-more (c .before .before .before .before .before .loop .inv) _ (omega arith))
-    (λ c. c .before .loop .inv .as-long)
-    (λ c. counted (c .before .loop .inv))
-    (λ c. c .before .before .before .before .loop .inv .as-long)
-    (λ c. counted (c .before .before .before .before .loop .inv)))
+    (λ c. simp length-set (omega arith))
+    (λ c. sym (length-take-le _ _ (omega arith)))
+    (λ c. tt))
