@@ -14,23 +14,22 @@ pub fn signed(sum: u32, x: i32) -> u32 {
     )
 }
 
-pub fn signed_list(sum: u32, numbers: &[i32]) -> u32 {
+// With the first `count` of an array.
+pub fn points(sum: u32, numbers: [i32; 127], count: usize) -> u32 {
     let mut after = sum;
-    for i in 0..numbers.len() {
-        after = signed(after, numbers[i]);
+    for i in 0..127 {
+        if i < count {
+            after = signed(after, numbers[i]);
+        }
     }
     after
 }
 
-// With a float's bits.
-pub fn single(sum: u32, x: f32) -> u32 {
-    word(sum, printing::single_bits(x))
-}
-
-pub fn single_list(sum: u32, numbers: &[f32]) -> u32 {
+// With the bits of floats.
+pub fn samples(sum: u32, numbers: [f32; 128]) -> u32 {
     let mut after = sum;
-    for i in 0..numbers.len() {
-        after = single(after, numbers[i]);
+    for i in 0..128 {
+        after = word(after, printing::single_bits(numbers[i]));
     }
     after
 }

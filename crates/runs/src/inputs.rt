@@ -11,9 +11,27 @@ use crate::generator::negative;
 use crate::generator::some;
 use crate::room;
 use voice::FingerSetup;
-use voice::NeckAnswer;
 use voice::Setup;
-use voice::lay_neck;
+
+// A place on the string.
+fn place(x: &mut u32, segments: u32) -> u32
+    requires { ⌜ 1 < segments ⌝ }
+{
+    1 + draw(x, segments - 1)
+}
+
+fn finger(x: &mut u32, segments: u32) -> FingerSetup
+    requires { ⌜ 1 < segments ⌝ }
+{
+    let stiffness = stiffness(x);
+    let mass = 1 + evenly_or_some(x, 1048575);
+    let place = place(x, segments);
+    FingerSetup {
+        place,
+        stiffness,
+        mass,
+    }
+}
 
 // A setup that is accepted, with so many segments.
 pub fn setup(x: &mut u32, segments: u32) -> Setup
@@ -23,37 +41,34 @@ pub fn setup(x: &mut u32, segments: u32) -> Setup
     let stiffness = evenly_or_some(x, (4096 - tension) / 4);
     let viscous = evenly_or_some(x, (4096 - tension - 4 * stiffness) / 2);
     let plain = evenly_or_some(x, 4096);
-    let finger_stiffness = evenly_or_some(x, 65535);
-    let mass = 1 + evenly_or_some(x, 1048575);
-    let finger_place = 1 + draw(x, segments - 1);
-    let pluck_place = 1 + draw(x, segments - 1);
-    let bridge_place = 1 + draw(x, segments - 1);
-    let neck_place = 1 + draw(x, segments - 1);
+    let finger = finger(x, segments);
+    let pluck_place = place(x, segments);
+    let bridge_place = place(x, segments);
+    let neck_place = place(x, segments);
     Setup {
         segments,
         tension,
         stiffness,
         viscous,
         plain,
-        finger: FingerSetup {
-            place: finger_place,
-            stiffness: finger_stiffness as u16,
-            mass,
-        },
+        finger,
         pluck_place,
         bridge_place,
         neck_place,
     }
 }
 
-// Heights from −depth − roughness to −depth.
-fn board(x: &mut u32, depth: u32, heights: &mut [i32])
-    requires { ⌜ depth ≤ 524288 ⌝ }
+// Heights from −depth − roughness to −depth, for so many points.
+pub fn board(x: &mut u32, depth: u32, points: usize) -> [i32; 127]
+    requires { ⌜ (depth ≤ 524288) × (points ≤ 127) ⌝ }
+    ensures { λ r. ⌜ 127 ≡ length r ⌝ }
 {
     let roughness = some(x, 524288);
-    for i in 0..heights.len() {
+    let mut heights = room::heights();
+    for i in 0..points {
         heights[i] = negative(depth + draw(x, roughness + 1));
     }
+    heights
 }
 
 // Adds a place behind the first `count`, if it is wanted and there is room; answers how many there are then.
@@ -70,11 +85,11 @@ fn add_if(wanted: bool, places: &mut [u32], count: usize, place: u32) -> usize
     count
 }
 
-// Increasing places below `segments`, about one in `spacing`, as many as there is room for; answers how many.
-fn frets(x: &mut u32, segments: u32, spacing: u32, places: &mut [u32]) -> usize
-    requires { ⌜ 0 < spacing ⌝ }
+// Increasing places below `segments`, about one in as many as are drawn, as far as there is room for; answers how many.
+pub fn frets(x: &mut u32, segments: u32, places: &mut [u32]) -> usize
     ensures { λ r. ⌜ Counts r (now (places .exit)) ⌝ }
 {
+    let spacing = 1 + draw(x, 32);
     let mut count = 0;
     for place in 1..segments {
         let wanted = draw(x, spacing) == 0;
@@ -83,35 +98,16 @@ fn frets(x: &mut u32, segments: u32, spacing: u32, places: &mut [u32]) -> usize
     count
 }
 
-// Lays a neck over a drawn board; answers 0, or the refusal.
-pub fn neck(
-    x: &mut u32,
-    setup: Setup,
-    lowered: &mut [i32],
-    heights: &mut [i32],
-    stiffness: &mut [u16],
-) -> u32 {
-    let depth = some(x, 524288);
-    board(x, depth, lowered);
-    let mut places = room::frets();
-    let spacing = 1 + draw(x, 32);
-    let count = frets(x, setup.segments, spacing, &mut places);
-    let tip = negative(draw(x, depth + 1));
-    let board_stiffness = evenly_or_some(x, 65535) as u16;
-    let fret_stiffness = evenly_or_some(x, 65535) as u16;
-    match lay_neck(
-        setup,
-        lowered,
-        board_stiffness,
-        &places[..count],
-        tip,
-        fret_stiffness,
-        heights,
-        stiffness,
-    ) {
-        NeckAnswer::Accepted => 0,
-        NeckAnswer::Refused(number) => number,
-    }
+// The height of the frets' tips, not below the board.
+pub fn tip(x: &mut u32, depth: u32) -> i32
+    requires { ⌜ depth ≤ 524288 ⌝ }
+{
+    negative(draw(x, depth + 1))
+}
+
+// The stiffness of the board or of the frets.
+pub fn stiffness(x: &mut u32) -> u16 {
+    evenly_or_some(x, 65535) as u16
 }
 
 // Forces within a limit at every other entry, `given` of them, then 0.

@@ -6,237 +6,117 @@ mod checksum;
 mod generator;
 mod inputs;
 mod play;
-mod progress;
 mod report;
 mod room;
+mod state;
 
-use progress::Progress;
+use state::State;
 use voice::Setup;
-use voice::StartAnswer;
-use voice::fresh_start;
+use voice::lay_neck;
 
 // Starts anew, with a drawn finger: at rest, or in a quarter of the draws coming down, or in a quarter anywhere before.
-fn start(
-    x: &mut u32,
-    setup: Setup,
-    first: &mut [i32],
-    second: &mut [i32],
-    contact: &mut [i32],
-    before: Progress,
-) -> Progress {
-    let height = generator::some(x, 786432);
-    let older = match generator::draw(x, 4) {
-        0 => (height + generator::draw(x, 262145)) as i32,
-        1 => generator::around(x, 1048576),
+fn start(setup: Setup, before: State) -> State {
+    let mut x = before.drawn;
+    let height = generator::some(&mut x, 786432);
+    let older = match generator::draw(&mut x, 4) {
+        0 => (height + generator::draw(&mut x, 262145)) as i32,
+        1 => generator::around(&mut x, 1048576),
         _ => height as i32,
     };
     let mut after = before;
-    match fresh_start(setup, first, second, contact, height as i32, older) {
-        StartAnswer::Accepted(started) => {
-            let finger = started.finger;
-            after.turn = started.turn;
-            after.finger = finger;
-        }
-        StartAnswer::Refused(number) => after.refusal = number,
-    }
-    after
+    after.drawn = x;
+    play::start(setup, after, height as i32, older)
 }
 
 // Starts anew after 13 or 14.
-fn start_if_refused(
-    x: &mut u32,
-    setup: Setup,
-    first: &mut [i32],
-    second: &mut [i32],
-    contact: &mut [i32],
-    before: Progress,
-) -> Progress {
+fn start_if_refused(setup: Setup, before: State) -> State {
     if before.refusal <= 12 {
         return before;
     }
-    start(x, setup, first, second, contact, before)
+    start(setup, before)
+}
+
+// Starts anew in a quarter of the draws.
+fn start_at_times(setup: Setup, before: State) -> State {
+    let mut x = before.drawn;
+    let drawn = generator::draw(&mut x, 4);
+    let mut after = before;
+    after.drawn = x;
+    if drawn > 0 {
+        return after;
+    }
+    start(setup, after)
 }
 
 // 64 frames, as a block or as single steps.
-fn part(
-    x: &mut u32,
-    setup: Setup,
-    heights: &[i32],
-    stiffness: &[u16],
-    first: &mut [i32],
-    second: &mut [i32],
-    contact: &mut [i32],
-    before: Progress,
-    in_block: bool,
-    samples: &mut [f32; 128],
-) -> Progress {
+fn part(setup: Setup, heights: &[i32], stiffness: &[u16], before: State, in_block: bool) -> State {
+    let mut x = before.drawn;
     let mut forces = room::forces();
-    inputs::forces(x, &mut forces);
-    let played = play::frames(
-        setup,
-        heights,
-        stiffness,
-        first,
-        second,
-        contact,
-        before,
-        in_block,
-        &forces,
-        samples,
-    );
-    let summed = progress::with_state(played, first, second, contact, samples);
-    start_if_refused(x, setup, first, second, contact, summed)
+    inputs::forces(&mut x, &mut forces);
+    let mut drawn = before;
+    drawn.drawn = x;
+    if in_block {
+        play::block(setup, heights, stiffness, drawn, &forces)
+    } else {
+        play::singles(setup, heights, stiffness, drawn, &forces)
+    }
 }
 
 // 256 frames: a block, single steps, a block, single steps.
-fn parts(
-    x: &mut u32,
-    setup: Setup,
-    heights: &[i32],
-    stiffness: &[u16],
-    first: &mut [i32],
-    second: &mut [i32],
-    contact: &mut [i32],
-    before: Progress,
-    samples: &mut [f32; 128],
-) -> Progress {
+fn stretch(setup: Setup, heights: &[i32], stiffness: &[u16], before: State) -> State {
+    let points = room::points(setup.segments);
     let mut now = before;
     for i in 0..4u32 {
-        let in_block = i % 2 == 0;
-        now = part(
-            x,
-            setup,
-            heights,
-            stiffness,
-            first,
-            second,
-            contact,
-            now,
-            in_block,
-            samples,
-        );
+        let played = part(setup, heights, stiffness, now, i % 2 == 0);
+        now = start_if_refused(setup, state::summed(played, points));
     }
     now
 }
 
-// The same, after a fresh start in a quarter of the draws.
-fn stretch(
-    x: &mut u32,
-    setup: Setup,
-    heights: &[i32],
-    stiffness: &[u16],
-    first: &mut [i32],
-    second: &mut [i32],
-    contact: &mut [i32],
-    before: Progress,
-    samples: &mut [f32; 128],
-) -> Progress {
-    if generator::draw(x, 4) > 0 {
-        return parts(
-            x,
-            setup,
-            heights,
-            stiffness,
-            first,
-            second,
-            contact,
-            before,
-            samples,
-        );
-    }
-    let started = start(x, setup, first, second, contact, before);
-    parts(
-        x,
-        setup,
-        heights,
-        stiffness,
-        first,
-        second,
-        contact,
-        started,
-        samples,
-    )
-}
-
-// The stretches of a run, from a fresh start.
-fn stretches(
-    seed: u32,
-    x: &mut u32,
-    setup: Setup,
-    heights: &[i32],
-    stiffness: &[u16],
-    first: &mut [i32],
-    second: &mut [i32],
-    contact: &mut [i32],
-) {
-    let mut samples = room::samples();
-    let mut now = start(x, setup, first, second, contact, progress::none());
+// The stretches of a run, from a fresh start; in a quarter of the draws one is preceded by another.
+fn stretches(run: u32, setup: Setup, heights: &[i32], stiffness: &[u16], drawn: u32) {
+    let mut now = start(setup, state::none(drawn));
     for i in 0..21 {
-        now = stretch(
-            x,
-            setup,
-            heights,
-            stiffness,
-            first,
-            second,
-            contact,
-            now,
-            &mut samples,
-        );
-        report::stretch(seed, i, now, first, second, contact, &samples);
+        now = stretch(setup, heights, stiffness, start_at_times(setup, now));
+        report::stretch(run, i, now);
     }
 }
 
-// A run on buffers of the right lengths: lays a neck, and plays.
-fn run_lent(
-    seed: u32,
-    setup: Setup,
-    board: &mut [i32],
-    heights: &mut [i32],
-    stiffness: &mut [u16],
-    first: &mut [i32],
-    second: &mut [i32],
-    contact: &mut [i32],
-    drawn: u32,
-) {
+// A run with this setup: lays a neck over a drawn board, and plays.
+fn play_all(run: u32, setup: Setup, drawn: u32) {
+    let points = room::points(setup.segments);
     let mut x = drawn;
-    inputs::neck(&mut x, setup, board, heights, stiffness);
-    stretches(
-        seed,
-        &mut x,
+    let depth = generator::some(&mut x, 524288);
+    let board = inputs::board(&mut x, depth, points);
+    let mut places = room::frets();
+    let count = inputs::frets(&mut x, setup.segments, &mut places);
+    let tip = inputs::tip(&mut x, depth);
+    let board_stiffness = inputs::stiffness(&mut x);
+    let fret_stiffness = inputs::stiffness(&mut x);
+    let mut heights_room = room::heights();
+    let mut stiffness_room = room::stiffness();
+    let heights = &mut heights_room[..points];
+    let stiffness = &mut stiffness_room[..points];
+    lay_neck(
         setup,
+        &board[..points],
+        board_stiffness,
+        &places[..count],
+        tip,
+        fret_stiffness,
         heights,
         stiffness,
-        first,
-        second,
-        contact,
     );
+    stretches(run, setup, heights, stiffness, x);
 }
 
 // A run on a string of so many segments, with this seed.
 fn run(seed: u32, segments: u32)
-    requires { ⌜ (1 < segments) × (segments ≤ 128) ⌝ }
+    requires { ⌜ 1 < segments ⌝ }
 {
     let mut x = generator::first(seed);
     let setup = inputs::setup(&mut x, segments);
-    let points = segments as usize - 1;
-    let mut board = room::points();
-    let mut heights = room::points();
-    let mut stiffness = room::stiffness();
-    let mut first = room::points();
-    let mut second = room::points();
-    let mut contact = room::points();
-    run_lent(
-        seed,
-        setup,
-        &mut board[..points],
-        &mut heights[..points],
-        &mut stiffness[..points],
-        &mut first[..points],
-        &mut second[..points],
-        &mut contact[..points],
-        x,
-    );
+    play_all(seed, setup, x);
 }
 
 fn main() {

@@ -1,121 +1,115 @@
-// The frames of a run: as a block, or a step at a time.
-use crate::progress::Progress;
-use crate::progress::after_block;
-use crate::progress::after_step;
+// Calls of the voice in a run: the fresh start, a block and a step, each on what the state has.
+use crate::room::points;
+use crate::state;
+use crate::state::State;
 use voice::Setup;
-use voice::StepAnswer;
+use voice::fresh_start;
 use voice::play_block;
 use voice::step;
 
+// Starts anew.
+pub fn start(setup: Setup, before: State, height: i32, older: i32) -> State {
+    let points = points(setup.segments);
+    let mut first = state::first(before);
+    let mut second = state::second(before);
+    let mut contact = state::contact(before);
+    let answer = fresh_start(
+        setup,
+        &mut first[..points],
+        &mut second[..points],
+        &mut contact[..points],
+        height,
+        older,
+    );
+    state::after_start(state::with_strings(before, first, second, contact), answer)
+}
+
 // 64 frames as one block.
-fn block(
+pub fn block(
     setup: Setup,
     heights: &[i32],
     stiffness: &[u16],
-    first: &mut [i32],
-    second: &mut [i32],
-    contact: &mut [i32],
-    before: Progress,
+    before: State,
     forces: &[i32; 128],
-    samples: &mut [f32; 128],
-) -> Progress {
+) -> State {
+    let points = points(setup.segments);
+    let mut first = state::first(before);
+    let mut second = state::second(before);
+    let mut contact = state::contact(before);
+    let mut samples = state::samples(before);
     let finger = before.finger;
-    let played = play_block(
+    let answer = play_block(
         setup,
         heights,
         stiffness,
-        first,
-        second,
-        contact,
+        &mut first[..points],
+        &mut second[..points],
+        &mut contact[..points],
         before.turn,
         finger,
         forces,
-        samples,
+        &mut samples,
     );
-    after_block(before, played)
+    state::after_block(
+        state::with_strings(before, first, second, contact),
+        answer,
+        samples,
+    )
 }
 
-// Writes the frame of an accepted step where a block would.
-fn write_frame(answer: StepAnswer, at: usize, samples: &mut [f32; 128]) {
-    if at < 64 {
-        match answer {
-            StepAnswer::Accepted(stepped) => {
-                samples[2 * at] = stepped.frame.bridge;
-                samples[2 * at + 1] = stepped.frame.neck;
-            }
-            StepAnswer::Refused(_) => {}
-        }
-    }
-}
-
-// 64 frames as single steps; one that is refused does not end them.
-fn singles(
+// One frame of 64 as a step.
+fn single(
     setup: Setup,
     heights: &[i32],
     stiffness: &[u16],
-    first: &mut [i32],
-    second: &mut [i32],
-    contact: &mut [i32],
-    before: Progress,
-    forces: &[i32; 128],
-    samples: &mut [f32; 128],
-) -> Progress {
-    let mut after = before;
-    for i in 0..64 {
-        let finger = after.finger;
-        let answer = step(
-            setup,
-            heights,
-            stiffness,
-            first,
-            second,
-            contact,
-            after.turn,
-            finger,
-            forces[2 * i],
-            forces[2 * i + 1],
-        );
-        write_frame(answer, i, samples);
-        after = after_step(after, answer);
-    }
-    after
-}
-
-// 64 frames, as one block or as single steps.
-pub fn frames(
-    setup: Setup,
-    heights: &[i32],
-    stiffness: &[u16],
-    first: &mut [i32],
-    second: &mut [i32],
-    contact: &mut [i32],
-    before: Progress,
-    in_block: bool,
-    forces: &[i32; 128],
-    samples: &mut [f32; 128],
-) -> Progress {
-    if in_block {
-        return block(
-            setup,
-            heights,
-            stiffness,
-            first,
-            second,
-            contact,
-            before,
-            forces,
-            samples,
-        );
-    }
-    singles(
+    before: State,
+    pluck_force: i32,
+    finger_force: i32,
+    frame: usize,
+) -> State {
+    let points = points(setup.segments);
+    let mut first = state::first(before);
+    let mut second = state::second(before);
+    let mut contact = state::contact(before);
+    let finger = before.finger;
+    let answer = step(
         setup,
         heights,
         stiffness,
-        first,
-        second,
-        contact,
-        before,
-        forces,
-        samples,
+        &mut first[..points],
+        &mut second[..points],
+        &mut contact[..points],
+        before.turn,
+        finger,
+        pluck_force,
+        finger_force,
+    );
+    state::after_step(
+        state::with_strings(before, first, second, contact),
+        answer,
+        frame,
     )
+}
+
+// 64 frames as single steps; one that is refused does not end them.
+pub fn singles(
+    setup: Setup,
+    heights: &[i32],
+    stiffness: &[u16],
+    before: State,
+    forces: &[i32; 128],
+) -> State {
+    let mut now = before;
+    for i in 0..64 {
+        now = single(
+            setup,
+            heights,
+            stiffness,
+            now,
+            forces[2 * i],
+            forces[2 * i + 1],
+            i,
+        );
+    }
+    now
 }

@@ -1,18 +1,23 @@
 // The line that is printed after each stretch.
-use crate::progress::Progress;
+use crate::state::State;
 use std::num::wrapping_add_u64;
 
-// The sum of the numbers: of those above 0, less the sizes of those below.
-fn sum(numbers: &[i32]) {
-    let mut above: u64 = 0;
-    let mut below: u64 = 0;
-    for i in 0..numbers.len() {
-        if numbers[i] < 0 {
-            below = wrapping_add_u64(below, printing::magnitude(numbers[i]));
-        } else {
-            above = wrapping_add_u64(above, printing::magnitude(numbers[i]));
+// A sum of sizes, of the numbers that are below 0, or of the others.
+fn sizes(numbers: [i32; 127], below: bool) -> u64 {
+    let mut sum = 0;
+    for i in 0..127 {
+        if (numbers[i] < 0) == below {
+            sum = wrapping_add_u64(sum, printing::magnitude(numbers[i]));
         }
     }
+    sum
+}
+
+// The sum of the numbers: of those above 0, less the sizes of those below.
+fn labelled_sum(label: &[u8], numbers: [i32; 127]) {
+    printing::text(label);
+    let above = sizes(numbers, false);
+    let below = sizes(numbers, true);
     if above < below {
         printing::text(b"-");
         printing::unsigned(below - above);
@@ -21,45 +26,47 @@ fn sum(numbers: &[i32]) {
     }
 }
 
-fn labelled_sum(label: &[u8], numbers: &[i32]) {
-    printing::text(label);
-    sum(numbers);
-}
-
 fn labelled(label: &[u8], number: u32) {
     printing::text(label);
     printing::unsigned(number as u64);
 }
 
-fn counts(progress: Progress) {
-    labelled(b" steps ", progress.steps);
-    labelled(b" refused ", progress.forces_refused);
-    labelled(b" ", progress.displacements_refused);
-    labelled(b" ", progress.contacts_refused);
+fn counts(state: State) {
+    labelled(b" steps ", state.steps);
+    labelled(b" refused ", state.forces_refused);
+    labelled(b" ", state.displacements_refused);
+    labelled(b" ", state.contacts_refused);
 }
 
-pub fn stretch(
-    run: u32,
-    stretch: u32,
-    progress: Progress,
-    first: &[i32],
-    second: &[i32],
-    contact: &[i32],
-    samples: &[f32; 128],
-) {
-    labelled(b"run ", run);
-    labelled(b" stretch ", stretch);
-    counts(progress);
+fn strings(state: State) {
+    let first = state.first;
+    let second = state.second;
+    let contact = state.contact;
     labelled_sum(b" strings ", first);
     labelled_sum(b" ", second);
     labelled_sum(b" contact ", contact);
+}
+
+fn finger_and_turn(state: State) {
     printing::text(b" finger");
-    let finger = progress.finger;
-    printing::signed_list(&[finger.newer, finger.older, finger.contact]);
-    labelled(b" turn ", progress.turn);
+    printing::signed_list(&[state.finger.newer, state.finger.older, state.finger.contact]);
+    labelled(b" turn ", state.turn);
+}
+
+// The last frame's samples, and the checksum.
+fn samples_and_checksum(state: State) {
     printing::text(b" samples");
-    printing::single_list(&[samples[126], samples[127]]);
+    printing::single_list(&[state.samples[126], state.samples[127]]);
     printing::text(b" checksum ");
-    io::print_hex(1, progress.checksum as u64, 8);
+    io::print_hex(1, state.checksum as u64, 8);
     printing::text(b"\n");
+}
+
+pub fn stretch(run: u32, stretch: u32, state: State) {
+    labelled(b"run ", run);
+    labelled(b" stretch ", stretch);
+    counts(state);
+    strings(state);
+    finger_and_turn(state);
+    samples_and_checksum(state);
 }

@@ -1,6 +1,6 @@
--- The heights keep their number, and the index stays below it.
-use mathlib.Core.Path.{_≡_, refl, _∙_}
-use Prim.Native.Nat.{_-_, _≤_}
+-- The index stays below the number of points.
+use mathlib.Core.Path.{_≡_, _∙_, sym}
+use Prim.Native.Nat.{_-_}
 use native.Mathlib.Omega.{arith}
 use borrow.Author.Needs.{needs}
 use lib.ListN.{length, length-set}
@@ -8,10 +8,10 @@ use Rattle.runs.proofs.inputs.board.Statement.{statement}
 use Rattle.runs.proofs.inputs.board.Tie as tie
 
 abbrev Inv-loop : tie.InvT-loop
-Inv-loop x₀ depth heights₀ roughness i₀ i-end x heights i = length heights ≡ length heights₀
+Inv-loop x₀ depth points roughness heights₀ i₀ x heights i = 127 ≡ length heights
 
 abbrev μ-loop : tie.MeasureT-loop
-μ-loop x₀ depth heights₀ roughness i₀ i-end x heights i = length heights₀ - i
+μ-loop x₀ depth points roughness heights₀ i₀ x heights i = points - i
 
 pub board-spec : {M : Type 1} → statement M
 board-spec =
@@ -20,7 +20,8 @@ board-spec =
     Inv-loop
     μ-loop
     (λ c κs. search needs)
-    (λ c. refl)
+    (λ c κs. tt)
+    (λ c. search needs)
     (λ c. omega arith)
     (λ c κs. omega arith)
     (λ c. omega arith)
@@ -29,6 +30,5 @@ board-spec =
     (λ c. omega arith)
     (λ c. omega arith)
     (λ c. omega arith)
-    (λ c. length-set (c .before .before .before .before .loop .heights) (c .before .before .before .before .loop .i) _ ∙ c .before .before .before .before .loop .inv)
-    (λ c. c .before .loop .inv)
-    (λ c. tt))
+    (λ c. simp length-set (omega arith))
+    (λ c. search needs))

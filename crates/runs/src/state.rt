@@ -1,0 +1,170 @@
+// How far a run has come: what the voice keeps between two calls, the generator's number, what was counted, and the checksum.
+ghost use mathlib.Core.Path.{_≡_};
+ghost use lib.ListN.{length};
+use crate::checksum;
+use crate::room;
+use std::num::wrapping_add_u32;
+use voice::BlockAnswer;
+use voice::Finger;
+use voice::StartAnswer;
+use voice::StepAnswer;
+
+pub struct State {
+    pub drawn: u32, // by the generator
+    pub first: [i32; 127], // a shorter string has its points in front
+    pub second: [i32; 127],
+    pub contact: [i32; 127],
+    pub samples: [f32; 128], // of the last 64 frames
+    pub turn: u32,
+    pub finger: Finger,
+    pub steps: u32, // accepted
+    pub forces_refused: u32, // steps refused with 12
+    pub displacements_refused: u32, // with 13
+    pub contacts_refused: u32, // with 14
+    pub refusal: u32, // of the last call, 0 if it had none
+    pub checksum: u32,
+}
+
+// Nothing yet.
+pub fn none(drawn: u32) -> State {
+    State {
+        drawn,
+        first: [0; 127],
+        second: [0; 127],
+        contact: [0; 127],
+        samples: [0.0; 128],
+        turn: 0,
+        finger: Finger {
+            newer: 0,
+            older: 0,
+            contact: 0,
+        },
+        steps: 0,
+        forces_refused: 0,
+        displacements_refused: 0,
+        contacts_refused: 0,
+        refusal: 0,
+        checksum: 0,
+    }
+}
+
+// What it has, with its length, which lending a part asks.
+pub fn first(state: State) -> [i32; 127]
+    ensures { λ r. ⌜ 127 ≡ length r ⌝ }
+{
+    let first = state.first;
+    room::string(first)
+}
+
+pub fn second(state: State) -> [i32; 127]
+    ensures { λ r. ⌜ 127 ≡ length r ⌝ }
+{
+    let second = state.second;
+    room::string(second)
+}
+
+pub fn contact(state: State) -> [i32; 127]
+    ensures { λ r. ⌜ 127 ≡ length r ⌝ }
+{
+    let contact = state.contact;
+    room::string(contact)
+}
+
+pub fn samples(state: State) -> [f32; 128]
+    ensures { λ r. ⌜ 128 ≡ length r ⌝ }
+{
+    let samples = state.samples;
+    room::frames(samples)
+}
+
+pub fn with_strings(
+    before: State,
+    first: [i32; 127],
+    second: [i32; 127],
+    contact: [i32; 127],
+) -> State {
+    let mut after = before;
+    after.first = first;
+    after.second = second;
+    after.contact = contact;
+    after
+}
+
+// After a fresh start.
+pub fn after_start(before: State, answer: StartAnswer) -> State {
+    let mut after = before;
+    match answer {
+        StartAnswer::Accepted(started) => {
+            let finger = started.finger;
+            after.turn = started.turn;
+            after.finger = finger;
+        }
+        StartAnswer::Refused(number) => after.refusal = number,
+    }
+    after
+}
+
+// After a call that was refused with this number, or with none, 0.
+fn after_refusal(before: State, refusal: u32) -> State {
+    let mut after = before;
+    after.refusal = refusal;
+    after.checksum = checksum::word(before.checksum, refusal);
+    if refusal == 12 {
+        after.forces_refused = wrapping_add_u32(before.forces_refused, 1);
+    }
+    if refusal == 13 {
+        after.displacements_refused = wrapping_add_u32(before.displacements_refused, 1);
+    }
+    if refusal == 14 {
+        after.contacts_refused = wrapping_add_u32(before.contacts_refused, 1);
+    }
+    after
+}
+
+// After a block that wrote these samples.
+pub fn after_block(before: State, played: BlockAnswer, samples: [f32; 128]) -> State {
+    let mut after = after_refusal(before, played.refusal);
+    let finger = played.finger;
+    after.turn = played.turn;
+    after.finger = finger;
+    after.samples = samples;
+    after.steps = wrapping_add_u32(before.steps, (played.count % 65536) as u32);
+    after
+}
+
+// After a step whose frame is this one of 64.
+pub fn after_step(before: State, answer: StepAnswer, frame: usize) -> State {
+    match answer {
+        StepAnswer::Accepted(stepped) => {
+            let mut after = after_refusal(before, 0);
+            let finger = stepped.finger;
+            after.turn = stepped.turn;
+            after.finger = finger;
+            after.steps = wrapping_add_u32(before.steps, 1);
+            if frame < 64 {
+                after.samples[2 * frame] = stepped.frame.bridge;
+                after.samples[2 * frame + 1] = stepped.frame.neck;
+            }
+            after
+        }
+        StepAnswer::Refused(number) => after_refusal(before, number),
+    }
+}
+
+// With turn, finger, strings, contact variables and samples in the checksum.
+pub fn summed(before: State, points: usize) -> State {
+    let mut after = before;
+    let first = before.first;
+    let second = before.second;
+    let contact = before.contact;
+    let samples = before.samples;
+    let mut sum = checksum::word(before.checksum, before.turn);
+    sum = checksum::signed(sum, before.finger.newer);
+    sum = checksum::signed(sum, before.finger.older);
+    sum = checksum::signed(sum, before.finger.contact);
+    sum = checksum::points(sum, first, points);
+    sum = checksum::points(sum, second, points);
+    sum = checksum::points(sum, contact, points);
+    after.checksum = checksum::samples(sum, samples);
+    after
+}
