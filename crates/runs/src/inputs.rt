@@ -9,7 +9,6 @@ use crate::generator::draw;
 use crate::generator::evenly_or_some;
 use crate::generator::negative;
 use crate::generator::some;
-use crate::room;
 use voice::FingerSetup;
 use voice::Setup;
 
@@ -20,19 +19,6 @@ fn place(x: &mut u32, segments: u32) -> u32
     1 + draw(x, segments - 1)
 }
 
-fn finger(x: &mut u32, segments: u32) -> FingerSetup
-    requires { ⌜ 1 < segments ⌝ }
-{
-    let stiffness = stiffness(x);
-    let mass = 1 + evenly_or_some(x, 1048575);
-    let place = place(x, segments);
-    FingerSetup {
-        place,
-        stiffness,
-        mass,
-    }
-}
-
 // A setup that is accepted, with so many segments.
 pub fn setup(x: &mut u32, segments: u32) -> Setup
     requires { ⌜ 1 < segments ⌝ }
@@ -41,7 +27,9 @@ pub fn setup(x: &mut u32, segments: u32) -> Setup
     let stiffness = evenly_or_some(x, (4096 - tension) / 4);
     let viscous = evenly_or_some(x, (4096 - tension - 4 * stiffness) / 2);
     let plain = evenly_or_some(x, 4096);
-    let finger = finger(x, segments);
+    let finger_stiffness = evenly_or_some(x, 65535) as u16;
+    let mass = 1 + evenly_or_some(x, 1048575);
+    let finger_place = place(x, segments);
     let pluck_place = place(x, segments);
     let bridge_place = place(x, segments);
     let neck_place = place(x, segments);
@@ -51,7 +39,11 @@ pub fn setup(x: &mut u32, segments: u32) -> Setup
         stiffness,
         viscous,
         plain,
-        finger,
+        finger: FingerSetup {
+            place: finger_place,
+            stiffness: finger_stiffness,
+            mass,
+        },
         pluck_place,
         bridge_place,
         neck_place,
@@ -64,7 +56,7 @@ pub fn board(x: &mut u32, depth: u32, points: usize) -> [i32; 127]
     ensures { λ r. ⌜ 127 ≡ length r ⌝ }
 {
     let roughness = some(x, 524288);
-    let mut heights = room::heights();
+    let mut heights = [0; 127];
     for i in 0..points {
         heights[i] = negative(depth + draw(x, roughness + 1));
     }
@@ -96,18 +88,6 @@ pub fn frets(x: &mut u32, segments: u32, places: &mut [u32]) -> usize
         count = add_if(wanted, places, count, place);
     }
     count
-}
-
-// The height of the frets' tips, not below the board.
-pub fn tip(x: &mut u32, depth: u32) -> i32
-    requires { ⌜ depth ≤ 524288 ⌝ }
-{
-    negative(draw(x, depth + 1))
-}
-
-// The stiffness of the board or of the frets.
-pub fn stiffness(x: &mut u32) -> u16 {
-    evenly_or_some(x, 65535) as u16
 }
 
 // Forces within a limit at every other entry, `given` of them, then 0.

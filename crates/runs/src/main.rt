@@ -51,7 +51,7 @@ fn start_at_times(setup: Setup, before: State) -> State {
 // 64 frames, as a block or as single steps.
 fn part(setup: Setup, heights: &[i32], stiffness: &[u16], before: State, in_block: bool) -> State {
     let mut x = before.drawn;
-    let mut forces = room::forces();
+    let mut forces = [0; 128];
     inputs::forces(&mut x, &mut forces);
     let mut drawn = before;
     drawn.drawn = x;
@@ -88,13 +88,13 @@ fn play_all(run: u32, setup: Setup, drawn: u32) {
     let mut x = drawn;
     let depth = generator::some(&mut x, 524288);
     let board = inputs::board(&mut x, depth, points);
-    let mut places = room::frets();
+    let mut places = [0; 24];
     let count = inputs::frets(&mut x, setup.segments, &mut places);
-    let tip = inputs::tip(&mut x, depth);
-    let board_stiffness = inputs::stiffness(&mut x);
-    let fret_stiffness = inputs::stiffness(&mut x);
-    let mut heights_room = room::heights();
-    let mut stiffness_room = room::stiffness();
+    let tip = generator::negative(generator::draw(&mut x, depth + 1));
+    let board_stiffness = generator::evenly_or_some(&mut x, 65535) as u16;
+    let fret_stiffness = generator::evenly_or_some(&mut x, 65535) as u16;
+    let mut heights_room = [0; 127];
+    let mut stiffness_room = [0; 127];
     let heights = &mut heights_room[..points];
     let stiffness = &mut stiffness_room[..points];
     lay_neck(

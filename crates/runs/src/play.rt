@@ -1,4 +1,5 @@
 // Calls of the voice in a run: the fresh start, a block and a step, each on what the state has.
+ghost use Prim.Native.Nat.{_<_};
 use crate::room::points;
 use crate::state;
 use crate::state::State;
@@ -66,7 +67,9 @@ fn single(
     pluck_force: i32,
     finger_force: i32,
     frame: usize,
-) -> State {
+) -> State
+    requires { ⌜ frame < 64 ⌝ }
+{
     let points = points(setup.segments);
     let mut first = state::first(before);
     let mut second = state::second(before);

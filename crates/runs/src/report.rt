@@ -6,8 +6,9 @@ use std::num::wrapping_add_u64;
 fn sizes(numbers: [i32; 127], below: bool) -> u64 {
     let mut sum = 0;
     for i in 0..127 {
-        if (numbers[i] < 0) == below {
-            sum = wrapping_add_u64(sum, printing::magnitude(numbers[i]));
+        let number = numbers[i];
+        if (number < 0) == below {
+            sum = wrapping_add_u64(sum, printing::magnitude(number));
         }
     }
     sum

@@ -1,4 +1,4 @@
-// Arrays that are lent whole or in part, each with its length in a contract.
+// How much of an array a string takes, and arrays with their lengths, which lending a part of one asks.
 ghost use mathlib.Core.Path.{_≡_};
 ghost use Prim.Native.Nat.{_≤_};
 ghost use lib.ListN.{length};
@@ -27,28 +27,4 @@ pub fn frames(numbers: [f32; 128]) -> [f32; 128]
     ensures { λ r. ⌜ 128 ≡ length r ⌝ }
 {
     numbers
-}
-
-pub fn heights() -> [i32; 127]
-    ensures { λ r. ⌜ 127 ≡ length r ⌝ }
-{
-    [0; 127]
-}
-
-pub fn stiffness() -> [u16; 127]
-    ensures { λ r. ⌜ 127 ≡ length r ⌝ }
-{
-    [0; 127]
-}
-
-pub fn frets() -> [u32; 24]
-    ensures { λ r. ⌜ 24 ≡ length r ⌝ }
-{
-    [0; 24]
-}
-
-pub fn forces() -> [i32; 128]
-    ensures { λ r. ⌜ 128 ≡ length r ⌝ }
-{
-    [0; 128]
 }

@@ -1,5 +1,6 @@
 // How far a run has come: what the voice keeps between two calls, the generator's number, what was counted, and the checksum.
 ghost use mathlib.Core.Path.{_≡_};
+ghost use Prim.Native.Nat.{_<_};
 ghost use lib.ListN.{length};
 use crate::checksum;
 use crate::room;
@@ -133,7 +134,9 @@ pub fn after_block(before: State, played: BlockAnswer, samples: [f32; 128]) -> S
 }
 
 // After a step whose frame is this one of 64.
-pub fn after_step(before: State, answer: StepAnswer, frame: usize) -> State {
+pub fn after_step(before: State, answer: StepAnswer, frame: usize) -> State
+    requires { ⌜ frame < 64 ⌝ }
+{
     match answer {
         StepAnswer::Accepted(stepped) => {
             let mut after = after_refusal(before, 0);
@@ -141,10 +144,8 @@ pub fn after_step(before: State, answer: StepAnswer, frame: usize) -> State {
             after.turn = stepped.turn;
             after.finger = finger;
             after.steps = wrapping_add_u32(before.steps, 1);
-            if frame < 64 {
-                after.samples[2 * frame] = stepped.frame.bridge;
-                after.samples[2 * frame + 1] = stepped.frame.neck;
-            }
+            after.samples[2 * frame] = stepped.frame.bridge;
+            after.samples[2 * frame + 1] = stepped.frame.neck;
             after
         }
         StepAnswer::Refused(number) => after_refusal(before, number),

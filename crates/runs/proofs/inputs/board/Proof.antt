@@ -20,7 +20,6 @@ board-spec =
     Inv-loop
     μ-loop
     (λ c κs. search needs)
-    (λ c κs. tt)
     (λ c. search needs)
     (λ c. omega arith)
     (λ c κs. omega arith)

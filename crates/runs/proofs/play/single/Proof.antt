@@ -22,5 +22,5 @@ single-spec =
     (λ c. sym (length-take-le _ _ (omega arith)))
     (λ c κs. tt)
     (λ c κs. tt)
-    (λ c κs. tt)
+    (λ c κs. search needs)
     (λ c. tt))

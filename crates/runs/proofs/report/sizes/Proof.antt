@@ -20,8 +20,6 @@ sizes-spec =
     (λ c. tt)
     (λ c. omega arith)
     (λ c. omega arith)
-    (λ c. omega arith)
-    (λ c. omega arith)
     (λ c κs. tt)
     (λ c κs. tt)
     (λ c. omega arith)
