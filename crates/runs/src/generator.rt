@@ -1,49 +1,65 @@
 // Drawn numbers. The generator holds a number of 32 bits other than 0; reference/runs.py has the same one.
 ghost use Prim.Native.Nat.{_≤_, _<_};
 
-// The first number, from a seed above 0: spread over the 32 bits.
+// A number that was drawn, and what the generator holds then.
+pub struct Drawn {
+    pub number: u32,
+    pub next: u32,
+}
+
+pub struct DrawnSigned {
+    pub number: i32,
+    pub next: u32,
+}
+
+// What it holds first, from a seed above 0: spread over the 32 bits.
 pub fn first(seed: u32) -> u32 {
     (seed as u64 * 2654435761 % 4294967296) as u32
 }
 
-// The number that follows x.
-fn next(x: u32) -> u32 {
+// What it holds after x.
+fn after(x: u32) -> u32 {
     let a = x ^ (x << 13);
     let b = a ^ (a >> 17);
     b ^ (b << 5)
 }
 
 // A number below n.
-pub fn draw(x: &mut u32, n: u32) -> u32
+pub fn draw(x: u32, n: u32) -> Drawn
     requires { ⌜ 0 < n ⌝ }
-    ensures { λ r. ⌜ r < n ⌝ }
+    ensures { λ r. ⌜ r .number < n ⌝ }
 {
-    *x = next(*x);
-    *x % n
+    let next = after(x);
+    Drawn {
+        number: next % n,
+        next,
+    }
 }
 
 // A number from 0 to the limit, small ones more often, 0 in a quarter of the draws.
-pub fn some(x: &mut u32, limit: u32) -> u32
+pub fn some(x: u32, limit: u32) -> Drawn
     requires { ⌜ limit < 4294967295 ⌝ }
-    ensures { λ r. ⌜ r ≤ limit ⌝ }
+    ensures { λ r. ⌜ r .number ≤ limit ⌝ }
 {
-    if draw(x, 4) == 0 {
-        return 0;
+    let quarter = draw(x, 4);
+    if quarter.number == 0 {
+        return quarter;
     }
-    let high = draw(x, limit + 1);
-    let middle = draw(x, high + 1);
-    draw(x, middle + 1)
+    let high = draw(quarter.next, limit + 1);
+    let middle = draw(high.next, high.number + 1);
+    draw(middle.next, middle.number + 1)
 }
 
 // A number from 0 to the limit, in half of the draws any as often as another, in half small ones more often.
-pub fn evenly_or_some(x: &mut u32, limit: u32) -> u32
+pub fn evenly_or_some(x: u32, limit: u32) -> Drawn
     requires { ⌜ limit < 4294967295 ⌝ }
-    ensures { λ r. ⌜ r ≤ limit ⌝ }
+    ensures { λ r. ⌜ r .number ≤ limit ⌝ }
 {
-    if draw(x, 2) == 0 {
-        draw(x, limit + 1)
+    let half = draw(x, 2);
+    if half.number == 0 {
+        draw(half.next, limit + 1)
     } else {
-        some(x, limit)
+        some(half.next, limit)
     }
 }
 
@@ -55,26 +71,31 @@ pub fn negative(size: u32) -> i32
 }
 
 // A number of this size, above or below 0.
-fn either(x: &mut u32, size: u32) -> i32
+fn either(x: u32, size: u32) -> DrawnSigned
     requires { ⌜ size < 2147483648 ⌝ }
 {
-    if draw(x, 2) == 0 {
+    let half = draw(x, 2);
+    let number = if half.number == 0 {
         size as i32
     } else {
         negative(size)
+    };
+    DrawnSigned {
+        number,
+        next: half.next,
     }
 }
 
 // A number from −limit to limit.
-pub fn around(x: &mut u32, limit: u32) -> i32
+pub fn around(x: u32, limit: u32) -> DrawnSigned
     requires { ⌜ limit < 2147483648 ⌝ }
 {
     let size = draw(x, limit + 1);
-    either(x, size)
+    either(size.next, size.number)
 }
 
 // A force out of range.
-pub fn beyond(x: &mut u32) -> i32 {
-    let size = 1073741825 + draw(x, 1073741823);
-    either(x, size)
+pub fn beyond(x: u32) -> DrawnSigned {
+    let size = draw(x, 1073741823);
+    either(size.next, 1073741825 + size.number)
 }

@@ -3,6 +3,7 @@ ghost use mathlib.Core.Path.{_≡_};
 ghost use Prim.Native.Nat.{_≤_, _<_};
 ghost use lib.ListN.{length};
 ghost use Rattle.io.specs.Counts.{Counts};
+use crate::generator::Drawn;
 use crate::generator::around;
 use crate::generator::beyond;
 use crate::generator::draw;
@@ -13,54 +14,75 @@ use voice::FingerSetup;
 use voice::Setup;
 
 // A place on the string.
-fn place(x: &mut u32, segments: u32) -> u32
+fn place(x: u32, segments: u32) -> Drawn
     requires { ⌜ 1 < segments ⌝ }
 {
-    1 + draw(x, segments - 1)
+    let place = draw(x, segments - 1);
+    Drawn {
+        number: 1 + place.number,
+        next: place.next,
+    }
+}
+
+pub struct DrawnSetup {
+    pub setup: Setup,
+    pub next: u32,
 }
 
 // A setup that is accepted, with so many segments.
-pub fn setup(x: &mut u32, segments: u32) -> Setup
+pub fn setup(x: u32, segments: u32) -> DrawnSetup
     requires { ⌜ 1 < segments ⌝ }
 {
-    let tension = 1 + draw(x, 4096);
-    let stiffness = evenly_or_some(x, (4096 - tension) / 4);
-    let viscous = evenly_or_some(x, (4096 - tension - 4 * stiffness) / 2);
-    let plain = evenly_or_some(x, 4096);
-    let finger_stiffness = evenly_or_some(x, 65535) as u16;
-    let mass = 1 + evenly_or_some(x, 1048575);
-    let finger_place = place(x, segments);
-    let pluck_place = place(x, segments);
-    let bridge_place = place(x, segments);
-    let neck_place = place(x, segments);
-    Setup {
-        segments,
-        tension,
-        stiffness,
-        viscous,
-        plain,
-        finger: FingerSetup {
-            place: finger_place,
-            stiffness: finger_stiffness,
-            mass,
+    let drawn = draw(x, 4096);
+    let tension = 1 + drawn.number;
+    let stiffness = evenly_or_some(drawn.next, (4096 - tension) / 4);
+    let viscous = evenly_or_some(stiffness.next, (4096 - tension - 4 * stiffness.number) / 2);
+    let plain = evenly_or_some(viscous.next, 4096);
+    let finger_stiffness = evenly_or_some(plain.next, 65535);
+    let mass = evenly_or_some(finger_stiffness.next, 1048575);
+    let finger_place = place(mass.next, segments);
+    let pluck_place = place(finger_place.next, segments);
+    let bridge_place = place(pluck_place.next, segments);
+    let neck_place = place(bridge_place.next, segments);
+    DrawnSetup {
+        setup: Setup {
+            segments,
+            tension,
+            stiffness: stiffness.number,
+            viscous: viscous.number,
+            plain: plain.number,
+            finger: FingerSetup {
+                place: finger_place.number,
+                stiffness: finger_stiffness.number as u16,
+                mass: 1 + mass.number,
+            },
+            pluck_place: pluck_place.number,
+            bridge_place: bridge_place.number,
+            neck_place: neck_place.number,
         },
-        pluck_place,
-        bridge_place,
-        neck_place,
+        next: neck_place.next,
     }
 }
 
+pub struct DrawnBoard {
+    pub heights: [i32; 127],
+    pub next: u32,
+}
+
 // Heights from −depth − roughness to −depth, for so many points.
-pub fn board(x: &mut u32, depth: u32, points: usize) -> [i32; 127]
+pub fn board(x: u32, depth: u32, points: usize) -> DrawnBoard
     requires { ⌜ (depth ≤ 524288) × (points ≤ 127) ⌝ }
-    ensures { λ r. ⌜ 127 ≡ length r ⌝ }
+    ensures { λ r. ⌜ 127 ≡ length (r .heights) ⌝ }
 {
     let roughness = some(x, 524288);
+    let mut next = roughness.next;
     let mut heights = [0; 127];
     for i in 0..points {
-        heights[i] = negative(depth + draw(x, roughness + 1));
+        let depression = draw(next, roughness.number + 1);
+        heights[i] = negative(depth + depression.number);
+        next = depression.next;
     }
-    heights
+    DrawnBoard { heights, next }
 }
 
 // Adds a place behind the first `count`, if it is wanted and there is room; answers how many there are then.
@@ -77,42 +99,62 @@ fn add_if(wanted: bool, places: &mut [u32], count: usize, place: u32) -> usize
     count
 }
 
+pub struct DrawnFrets {
+    pub count: usize,
+    pub next: u32,
+}
+
 // Increasing places below `segments`, about one in as many as are drawn, as far as there is room for; answers how many.
-pub fn frets(x: &mut u32, segments: u32, places: &mut [u32]) -> usize
-    ensures { λ r. ⌜ Counts r (now (places .exit)) ⌝ }
+pub fn frets(x: u32, segments: u32, places: &mut [u32]) -> DrawnFrets
+    ensures { λ r. ⌜ Counts (r .count) (now (places .exit)) ⌝ }
 {
-    let spacing = 1 + draw(x, 32);
+    let spacing = draw(x, 32);
+    let mut next = spacing.next;
     let mut count = 0;
     for place in 1..segments {
-        let wanted = draw(x, spacing) == 0;
-        count = add_if(wanted, places, count, place);
+        let fret = draw(next, spacing.number + 1);
+        count = add_if(fret.number == 0, places, count, place);
+        next = fret.next;
     }
-    count
+    DrawnFrets { count, next }
 }
 
-// Forces within a limit at every other entry, `given` of them, then 0.
-fn every_other(x: &mut u32, limit: u32, given: u32, start: usize, out: &mut [i32; 128])
-    requires { ⌜ (limit < 2147483648) × (start < 2) × (length (now out) ≡ 128) ⌝ }
+// Forces within a limit at every other entry, `given` of them, then 0; answers what the generator holds then.
+fn every_other(x: u32, limit: u32, given: u32, start: usize, out: &mut [i32; 128]) -> u32
+    requires { ⌜ (limit < 2147483648) × (start < 2) × (length (now out) ≡ 128) × (given ≤ 64) ⌝ }
     ensures { λ _. ⌜ length (now (out .exit)) ≡ 128 ⌝ }
 {
-    for i in 0..64 {
-        let force = if i < given { around(x, limit) } else { 0 };
-        out[2 * i as usize + start] = force;
+    let mut next = x;
+    for i in 0..given {
+        let force = around(next, limit);
+        let number = force.number;
+        out[2 * i as usize + start] = number;
+        next = force.next;
     }
+    next
 }
 
-// The forces of 64 frames: some plucks, then none; some finger forces, then none; in a quarter of the draws one of them out of range.
-pub fn forces(x: &mut u32, out: &mut [i32; 128])
+// The forces of 64 frames, instead of none: some plucks and some finger forces; in a quarter of the draws one of them out of range.
+// Answers what the generator holds then.
+pub fn forces(x: u32, out: &mut [i32; 128]) -> u32
     requires { ⌜ length (now out) ≡ 128 ⌝ }
 {
     let pluck_limit = some(x, 1073741824);
-    let finger_limit = some(x, 1073741824);
-    let plucked = some(x, 64);
-    let pressed = some(x, 64);
-    every_other(x, pluck_limit, plucked, 0, out);
-    every_other(x, finger_limit, pressed, 1, out);
-    if draw(x, 4) == 0 {
-        let which = draw(x, 128) as usize;
-        out[which] = beyond(x);
+    let finger_limit = some(pluck_limit.next, 1073741824);
+    let plucked = some(finger_limit.next, 64);
+    let pressed = some(plucked.next, 64);
+    let next = every_other(pressed.next, pluck_limit.number, plucked.number, 0, out);
+    let quarter = draw(
+        every_other(next, finger_limit.number, pressed.number, 1, out),
+        4,
+    );
+    if quarter.number > 0 {
+        return quarter.next;
     }
+    let which = draw(quarter.next, 128);
+    let force = beyond(which.next);
+    let at = which.number as usize;
+    let number = force.number;
+    out[at] = number;
+    force.next
 }

@@ -10,22 +10,39 @@ mod report;
 mod room;
 mod state;
 
+use generator::DrawnSigned;
 use state::State;
 use voice::Setup;
 use voice::lay_neck;
 
-// Starts anew, with a drawn finger: at rest, or in a quarter of the draws coming down, or in a quarter anywhere before.
+// The height before: the same, or in a quarter of the draws above, or in a quarter anywhere.
+fn older_height(x: u32, height: u32) -> DrawnSigned
+    requires { ⌜ height ≤ 786432 ⌝ }
+{
+    let quarter = generator::draw(x, 4);
+    if quarter.number == 1 {
+        return generator::around(quarter.next, 1048576);
+    }
+    if quarter.number > 1 {
+        return DrawnSigned {
+            number: height as i32,
+            next: quarter.next,
+        };
+    }
+    let above = generator::draw(quarter.next, 262145);
+    DrawnSigned {
+        number: (height + above.number) as i32,
+        next: above.next,
+    }
+}
+
+// Starts anew, with a drawn finger.
 fn start(setup: Setup, before: State) -> State {
-    let mut x = before.drawn;
-    let height = generator::some(&mut x, 786432);
-    let older = match generator::draw(&mut x, 4) {
-        0 => (height + generator::draw(&mut x, 262145)) as i32,
-        1 => generator::around(&mut x, 1048576),
-        _ => height as i32,
-    };
+    let height = generator::some(before.drawn, 786432);
+    let older = older_height(height.next, height.number);
     let mut after = before;
-    after.drawn = x;
-    play::start(setup, after, height as i32, older)
+    after.drawn = older.next;
+    play::start(setup, after, height.number as i32, older.number)
 }
 
 // Starts anew after 13 or 14.
@@ -38,11 +55,10 @@ fn start_if_refused(setup: Setup, before: State) -> State {
 
 // Starts anew in a quarter of the draws.
 fn start_at_times(setup: Setup, before: State) -> State {
-    let mut x = before.drawn;
-    let drawn = generator::draw(&mut x, 4);
+    let quarter = generator::draw(before.drawn, 4);
     let mut after = before;
-    after.drawn = x;
-    if drawn > 0 {
+    after.drawn = quarter.next;
+    if quarter.number > 0 {
         return after;
     }
     start(setup, after)
@@ -50,11 +66,9 @@ fn start_at_times(setup: Setup, before: State) -> State {
 
 // 64 frames, as a block or as single steps.
 fn part(setup: Setup, heights: &[i32], stiffness: &[u16], before: State, in_block: bool) -> State {
-    let mut x = before.drawn;
     let mut forces = [0; 128];
-    inputs::forces(&mut x, &mut forces);
     let mut drawn = before;
-    drawn.drawn = x;
+    drawn.drawn = inputs::forces(before.drawn, &mut forces);
     if in_block {
         play::block(setup, heights, stiffness, drawn, &forces)
     } else {
@@ -85,38 +99,39 @@ fn stretches(run: u32, setup: Setup, heights: &[i32], stiffness: &[u16], drawn: 
 // A run with this setup: lays a neck over a drawn board, and plays.
 fn play_all(run: u32, setup: Setup, drawn: u32) {
     let points = room::points(setup.segments);
-    let mut x = drawn;
-    let depth = generator::some(&mut x, 524288);
-    let board = inputs::board(&mut x, depth, points);
+    let depth = generator::some(drawn, 524288);
+    let board = inputs::board(depth.next, depth.number, points);
     let mut places = [0; 24];
-    let count = inputs::frets(&mut x, setup.segments, &mut places);
-    let tip = generator::negative(generator::draw(&mut x, depth + 1));
-    let board_stiffness = generator::evenly_or_some(&mut x, 65535) as u16;
-    let fret_stiffness = generator::evenly_or_some(&mut x, 65535) as u16;
+    let frets = inputs::frets(board.next, setup.segments, &mut places);
+    let tip = generator::draw(frets.next, depth.number + 1);
+    let board_stiffness = generator::evenly_or_some(tip.next, 65535);
+    let fret_stiffness = generator::evenly_or_some(board_stiffness.next, 65535);
+    let board_heights = board.heights;
+    let count = frets.count;
     let mut heights_room = [0; 127];
     let mut stiffness_room = [0; 127];
     let heights = &mut heights_room[..points];
     let stiffness = &mut stiffness_room[..points];
     lay_neck(
         setup,
-        &board[..points],
-        board_stiffness,
+        &board_heights[..points],
+        board_stiffness.number as u16,
         &places[..count],
-        tip,
-        fret_stiffness,
+        generator::negative(tip.number),
+        fret_stiffness.number as u16,
         heights,
         stiffness,
     );
-    stretches(run, setup, heights, stiffness, x);
+    stretches(run, setup, heights, stiffness, fret_stiffness.next);
 }
 
 // A run on a string of so many segments, with this seed.
 fn run(seed: u32, segments: u32)
     requires { ⌜ 1 < segments ⌝ }
 {
-    let mut x = generator::first(seed);
-    let setup = inputs::setup(&mut x, segments);
-    play_all(seed, setup, x);
+    let drawn = inputs::setup(generator::first(seed), segments);
+    let setup = drawn.setup;
+    play_all(seed, setup, drawn.next);
 }
 
 fn main() {

@@ -1,4 +1,5 @@
 // The line that is printed after each stretch.
+use crate::state;
 use crate::state::State;
 use std::num::wrapping_add_u64;
 
@@ -32,42 +33,34 @@ fn labelled(label: &[u8], number: u32) {
     printing::unsigned(number as u64);
 }
 
-fn counts(state: State) {
-    labelled(b" steps ", state.steps);
-    labelled(b" refused ", state.forces_refused);
-    labelled(b" ", state.displacements_refused);
-    labelled(b" ", state.contacts_refused);
-}
-
-fn strings(state: State) {
+fn strings_and_finger(state: State) {
     let first = state.first;
     let second = state.second;
     let contact = state.contact;
     labelled_sum(b" strings ", first);
     labelled_sum(b" ", second);
     labelled_sum(b" contact ", contact);
-}
-
-fn finger_and_turn(state: State) {
     printing::text(b" finger");
     printing::signed_list(&[state.finger.newer, state.finger.older, state.finger.contact]);
-    labelled(b" turn ", state.turn);
 }
 
-// The last frame's samples, and the checksum.
-fn samples_and_checksum(state: State) {
+fn last_samples(state: State) {
+    let samples = state::samples(state);
     printing::text(b" samples");
-    printing::single_list(&[state.samples[126], state.samples[127]]);
-    printing::text(b" checksum ");
-    io::print_hex(1, state.checksum as u64, 8);
-    printing::text(b"\n");
+    printing::single_list(&samples[126..]);
 }
 
 pub fn stretch(run: u32, stretch: u32, state: State) {
     labelled(b"run ", run);
     labelled(b" stretch ", stretch);
-    counts(state);
-    strings(state);
-    finger_and_turn(state);
-    samples_and_checksum(state);
+    labelled(b" steps ", state.steps);
+    labelled(b" refused ", state.forces_refused);
+    labelled(b" ", state.displacements_refused);
+    labelled(b" ", state.contacts_refused);
+    strings_and_finger(state);
+    labelled(b" turn ", state.turn);
+    last_samples(state);
+    printing::text(b" checksum ");
+    io::print_hex(1, state.checksum as u64, 8);
+    printing::text(b"\n");
 }

@@ -110,15 +110,12 @@ fn after_refusal(before: State, refusal: u32) -> State {
     let mut after = before;
     after.refusal = refusal;
     after.checksum = checksum::word(before.checksum, refusal);
-    if refusal == 12 {
-        after.forces_refused = wrapping_add_u32(before.forces_refused, 1);
-    }
-    if refusal == 13 {
-        after.displacements_refused = wrapping_add_u32(before.displacements_refused, 1);
-    }
-    if refusal == 14 {
-        after.contacts_refused = wrapping_add_u32(before.contacts_refused, 1);
-    }
+    after.forces_refused = wrapping_add_u32(before.forces_refused, (refusal == 12) as u32);
+    after.displacements_refused = wrapping_add_u32(
+        before.displacements_refused,
+        (refusal == 13) as u32,
+    );
+    after.contacts_refused = wrapping_add_u32(before.contacts_refused, (refusal == 14) as u32);
     after
 }
 

@@ -5,4 +5,4 @@ use Rattle.runs.proofs.generator.draw.Statement.{statement}
 use Rattle.runs.proofs.generator.draw.Tie as tie
 
 pub draw-spec : {M : Type 1} → statement M
-draw-spec = tie.close (tie.spec (λ c κs. tt) (λ c. search needs) (λ c. mod-lt (c .next .result) (c .before .before .pre)))
+draw-spec = tie.close (tie.spec (λ c κs. tt) (λ c. search needs) (λ c. mod-lt (c .after .result) (c .before .pre)))

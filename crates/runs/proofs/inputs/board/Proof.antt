@@ -1,5 +1,5 @@
 -- The index stays below the number of points.
-use mathlib.Core.Path.{_≡_, _∙_, sym}
+use mathlib.Core.Path.{_≡_}
 use Prim.Native.Nat.{_-_}
 use native.Mathlib.Omega.{arith}
 use borrow.Author.Needs.{needs}
@@ -8,10 +8,10 @@ use Rattle.runs.proofs.inputs.board.Statement.{statement}
 use Rattle.runs.proofs.inputs.board.Tie as tie
 
 abbrev Inv-loop : tie.InvT-loop
-Inv-loop x₀ depth points roughness heights₀ i₀ x heights i = 127 ≡ length heights
+Inv-loop x depth points roughness next₀ heights₀ i₀ next heights i = 127 ≡ length heights
 
 abbrev μ-loop : tie.MeasureT-loop
-μ-loop x₀ depth points roughness heights₀ i₀ x heights i = points - i
+μ-loop x depth points roughness next₀ heights₀ i₀ next heights i = points - i
 
 pub board-spec : {M : Type 1} → statement M
 board-spec =

@@ -1,5 +1,5 @@
 -- There are 128 forces, of which each is written in its place.
-use mathlib.Core.Path.{_≡_, _∙_}
+use mathlib.Core.Path.{_≡_}
 use Prim.Native.Nat.{_-_}
 use native.Mathlib.Omega.{arith}
 use borrow.Author.Needs.{needs}
@@ -8,10 +8,10 @@ use Rattle.runs.proofs.inputs.every_other.Statement.{statement}
 use Rattle.runs.proofs.inputs.every_other.Tie as tie
 
 abbrev Inv-loop : tie.InvT-loop
-Inv-loop x₀ limit given start out₀ i₀ x out i = length out ≡ 128
+Inv-loop x limit given start out₀ next₀ i₀ out next i = length out ≡ 128
 
 abbrev μ-loop : tie.MeasureT-loop
-μ-loop x₀ limit given start out₀ i₀ x out i = 64 - i
+μ-loop x limit given start out₀ next₀ i₀ out next i = given - i
 
 pub every-other-spec : {M : Type 1} → statement M
 every-other-spec =
@@ -21,12 +21,12 @@ every-other-spec =
     μ-loop
     (λ c. search needs)
     (λ c κs. omega arith)
-    (λ c. search needs)
     (λ c. omega arith)
     (λ c. omega arith)
     (λ c. omega arith)
     (λ c. omega arith)
     (λ c. omega arith)
     (λ c. omega arith)
-    (λ c. length-set (c .before .before .loop .out) _ _ ∙ c .before .before .loop .inv)
-    (λ c. c .before .loop .inv))
+    (λ c. omega arith)
+    (λ c. simp length-set (omega arith))
+    (λ c. search needs))

@@ -8,10 +8,10 @@ use Rattle.runs.proofs.inputs.frets.Statement.{statement}
 use Rattle.runs.proofs.inputs.frets.Tie as tie
 
 abbrev Inv-loop : tie.InvT-loop
-Inv-loop x₀ segments places₀ spacing count₀ place₀ x places count place = (length places ≡ length places₀) × (count ≤ length places)
+Inv-loop x segments places₀ spacing next₀ count₀ place₀ places next count place = (length places ≡ length places₀) × (count ≤ length places)
 
 abbrev μ-loop : tie.MeasureT-loop
-μ-loop x₀ segments places₀ spacing count₀ place₀ x places count place = segments - place
+μ-loop x segments places₀ spacing next₀ count₀ place₀ places next count place = segments - place
 
 pub frets-spec : {M : Type 1} → statement M
 frets-spec =
@@ -20,8 +20,8 @@ frets-spec =
     Inv-loop
     μ-loop
     (λ c κs. omega arith)
-    (λ c. omega arith)
     (λ c. (refl, omega arith))
+    (λ c. omega arith)
     (λ c κs. omega arith)
     (λ c κs. omega arith)
     (λ c. omega arith)
