@@ -1,7 +1,6 @@
 -- Four parts.
 use Prim.Native.Nat.{_-_}
 use native.Mathlib.Omega.{arith}
-use borrow.Author.Needs.{needs}
 use Rattle.runs.proofs.stretch.Statement.{statement}
 use Rattle.runs.proofs.stretch.Tie as tie
 

@@ -1,7 +1,6 @@
 -- As many as there are to play.
 use Prim.Native.Nat.{_-_}
 use native.Mathlib.Omega.{arith}
-use borrow.Author.Needs.{needs}
 use Rattle.runs.proofs.stretches.Statement.{statement}
 use Rattle.runs.proofs.stretches.Tie as tie
 

@@ -1,7 +1,6 @@
 -- The index stays below the length.
 use Prim.Native.Nat.{_-_}
 use native.Mathlib.Omega.{arith}
-use borrow.Author.Needs.{needs}
 use Rattle.runs.proofs.checksum.samples.Statement.{statement}
 use Rattle.runs.proofs.checksum.samples.Tie as tie
 

@@ -1,7 +1,6 @@
 -- Each frame has two of the 128 forces.
 use Prim.Native.Nat.{_-_}
 use native.Mathlib.Omega.{arith}
-use borrow.Author.Needs.{needs}
 use Rattle.runs.proofs.play.singles.Statement.{statement}
 use Rattle.runs.proofs.play.singles.Tie as tie
 

@@ -1,7 +1,6 @@
 -- A string of at most 127 points fits its array.
 use mathlib.Core.Path.{sym}
 use native.Mathlib.Omega.{arith}
-use borrow.Author.Needs.{needs}
 use lib.Seq.{length-take-le}
 use Rattle.runs.proofs.play.start.Statement.{statement}
 use Rattle.runs.proofs.play.start.Tie as tie
