@@ -23,7 +23,8 @@ fn answer(line: &[u8]) {
         b'p' => step::answer(line),
         b'c' => block::answer(line),
         b'e' => newest::answer(line),
-        _ => reading::answer(line),
+        b'd' => reading::answer(line),
+        _ => printing::text(b"no such operation"),
     }
     printing::text(b"\n");
 }

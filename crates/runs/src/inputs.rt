@@ -1,4 +1,4 @@
-// What a run is made of: setup, neck, finger and forces, all drawn.
+// What is drawn for a run: its setup, the board and the frets of its neck, and the forces of its frames.
 ghost use mathlib.Core.Path.{_≡_};
 ghost use Prim.Native.Nat.{_≤_, _<_};
 ghost use lib.ListN.{length};

@@ -1,6 +1,6 @@
 -- The outcome of a step that is worked out: 13 or 14 and nothing written, or its state taken over.
 use mathlib.Core.Path.{_≡_, sym, ap}
-use mathlib.Core.List.{List, [], _∷_}
+use mathlib.Core.List.{List}
 use Prim.Native.Nat.{ℕ}
 use lib.IntN.{ℤ}
 use lib.ListN.{drop}

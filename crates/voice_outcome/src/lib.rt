@@ -16,7 +16,7 @@ use voice_rows::new_contact_variables_ok;
 use voice_rows::new_string_ok;
 
 // Writes the new string over the older one, and the new contact variables, and answers with the turn that it is given; or answers 13 or 14
-// and leaves them. `height` is the finger's newer height, which then is its older one.
+// and leaves them. `height` is the finger's newer height, which then is its older one. The older string of the state in the contract plays no part.
 pub fn outcome(
     setup: Setup,
     next: NewFinger,

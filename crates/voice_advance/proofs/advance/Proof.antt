@@ -1,7 +1,7 @@
--- `advance` meets its contract: rows 12, 13 and 14 are gone through, and a passed table leads to the next state.
+-- `advance` meets its contract: row 12 is gone through, the next state is worked out, and its outcome is what is left of the step.
 use mathlib.Core.Path.{_≡_, refl, _∙_, ap, ap₂}
 use mathlib.Core.List.{List, [], _∷_}
-use Prim.Native.Nat.{ℕ, _≤_}
+use Prim.Native.Nat.{ℕ}
 use native.Mathlib.Omega.{arith}
 use borrow.Author.Needs.{needs, sfits-of}
 use lib.ListN.{drop, take}
@@ -104,9 +104,6 @@ module _ (c : lts.Else1 Learnt reads.Pre reads.Post) where
   lengths : Examined (s call-1) (neck call-1) (x call-1)
   unfolding callRules
   lengths = examined (s call-1) (neck call-1) (x call-1) _ passed
-
-  short : (n : ℕ) → n ≡ points (s call-1) → n ≤ 127
-  short n e = let h = lengths .setup .segments in rw e (omega arith)
 
 work-out-requires : tie.Need-work-out-requires
 work-out-requires c κs =

@@ -5,7 +5,6 @@ use Prim.Native.Nat.{ℕ, _≤_}
 use native.Mathlib.Omega.{arith}
 use borrow.Author.Needs.{needs, sfits-of}
 use lib.Dec.{T}
-use lib.IntN.{ℤ}
 use lib.ListN.{length, drop, take}
 use lib.Seq.{length-take-le}
 use mir.Facts.{toZ-ofZ, and-yes}
