@@ -1,6 +1,10 @@
-/* The string voice for C: what the static library exports. Document 01 is the scope; the numbers of refusals are its numbers.
-   Every function may be given any numbers and any lengths. A pointer must point to as many elements as the length beside it says,
-   and buffers that are not const must not overlap. */
+/* The string voice for C: a guitar string seen from the side, its fretboard and frets and one stopping finger, stepped in whole numbers. Document 01 is
+   the scope, and the numbers of refusals are its numbers; docs/INTEGRATION.md says what to do about each.
+
+   A voice is a setup, a neck and a state, all kept by the caller; the library keeps nothing between calls, allocates nothing and calls nothing.
+   Every function may be given any numbers and any lengths, and examines them. What it cannot examine is left to the caller:
+   - a pointer points to as many elements as the length beside it says, and is aligned for its type; at length 0 it is not read;
+   - buffers that are not const overlap no other buffer of the call. */
 #ifndef STRING_VOICE_H
 #define STRING_VOICE_H
 
@@ -11,68 +15,120 @@
 extern "C" {
 #endif
 
-/* 01, 'Setup'. */
+/* 01, 'Setup': what stays the same while a voice plays. Places are counted from the nut, 0, to the bridge, N; buffers hold the points 1 to N - 1. */
 typedef struct {
-    uint32_t segments;         /* N, 2 to 128 */
+    uint32_t segments;         /* N, 2 to 128; neck, string and contact buffers are N - 1 long */
     uint32_t tension;          /* L, 1 to 4096 */
-    uint32_t stiffness;        /* M, 0 to 4096 */
+    uint32_t stiffness;        /* M, 0 to 4096: the string's own stiffness against bending */
     uint32_t viscous;          /* S, viscous loss, 0 to 4096 */
     uint32_t plain;            /* Z, plain loss, 0 to 4096; L + 4M + 2S is at most 4096 */
-    uint16_t finger_stiffness; /* K */
+    uint16_t finger_stiffness; /* K, any 16 bits */
     uint32_t finger_mass;      /* m, 1 to 1,048,576; a string point has mass 4096 */
-    uint32_t finger_place;     /* p, 1 to N - 1, as all places */
-    uint32_t pluck_place;      /* e */
-    uint32_t bridge_place;
-    uint32_t neck_place;
+    uint32_t finger_place;     /* p, 1 to N - 1, as all places; places may coincide */
+    uint32_t pluck_place;      /* e, where the pluck force acts */
+    uint32_t bridge_place;     /* what the bridge pickup hears */
+    uint32_t neck_place;       /* what the neck pickup hears */
 } sv_setup;
 
-/* 01, 'One step': the finger's newer height w, its older height w' and its contact variable. */
+/* 01, 'One step': the finger. Each step is given the finger that the call before it gave. */
 typedef struct {
-    int32_t newer, older, contact;
+    int32_t newer;   /* w, its newer height, -1,048,576 to 1,048,576 */
+    int32_t older;   /* w', its older height, in the same range */
+    int32_t contact; /* its contact variable, -67,108,864 to 67,108,864 */
 } sv_finger;
 
-/* A pickup frame: two new displacements divided by 1,048,576. */
+/* 01, 'Playing a block': a pickup frame. */
 typedef struct {
-    float bridge, neck;
+    float bridge; /* the new displacement at bridge_place, divided by 1,048,576; exact */
+    float neck;   /* the one at neck_place */
 } sv_frame;
 
-/* What a step answers: the refusal, 0 if there is none, and turn, finger and frame. After a refusal turn and finger are those passed in,
-   and the frame is 0. */
+/* Examines a setup: 0 if it is accepted, otherwise 1 to 5. Every other function examines its setup in the same way. */
+uint32_t sv_check_setup(sv_setup setup);
+
+/* Lays the neck: writes the height and the stiffness of each point, or answers the refusal (1 to 5, 6, 7, 8 or 9) and writes nothing. 0 is accepted. */
+uint32_t sv_lay_neck(sv_setup setup,                                    /* of which only N counts, once it is accepted */
+                     const int32_t *board, size_t board_length,         /* the board's height at each point, -1,048,576 to 0 */
+                     uint16_t board_stiffness,                          /* of the whole board */
+                     const uint32_t *frets, size_t frets_length,        /* up to 24 places from 1 to N - 1, strictly increasing */
+                     int32_t tip,                                       /* the height of every fret: at most 0, and not below the board there */
+                     uint16_t fret_stiffness,                           /* of every fret */
+                     int32_t *heights, size_t heights_length,           /* written: the tip at a fret's point, the board's height elsewhere */
+                     uint16_t *stiffness, size_t stiffness_length);     /* written: the fret's or the board's stiffness */
+
+/* What a fresh start answers. */
 typedef struct {
-    uint32_t refusal, turn;
-    sv_finger finger;
-    sv_frame frame;
+    uint32_t refusal; /* 0, or 1 to 5, 6 or 10 */
+    uint32_t turn;    /* 0 */
+    sv_finger finger; /* at its two heights, contact variable 0; all 0 after a refusal */
+} sv_started;
+
+/* A fresh start: clears both strings and the contact variables. A refusal leaves them as they were. */
+sv_started sv_fresh_start(sv_setup setup,
+                          int32_t *first, size_t first_length,     /* a string buffer */
+                          int32_t *second, size_t second_length,   /* the other one */
+                          int32_t *contact, size_t contact_length, /* the contact variable of each point */
+                          int32_t height,                          /* the finger's, 0 to 1,048,576 */
+                          int32_t older_height);                   /* the finger's older height, -1,048,576 to 1,048,576 */
+
+/* What a step answers. */
+typedef struct {
+    uint32_t refusal; /* 0, or 1 to 5, 6, 7, 11, 12, 13 or 14 */
+    uint32_t turn;    /* 1 or 0: which string is newer now; after a refusal the number passed in */
+    sv_finger finger; /* after the step; after a refusal as passed in */
+    sv_frame frame;   /* what the pickups hear; 0 after a refusal */
 } sv_stepped;
 
-/* One step. Turn 0 means that the first string is newer, any other number the second. An accepted step writes the new string over the older
-   buffer, and the contact variables. A refusal (1 to 5, 6, 7, 11, 12, 13 or 14) leaves every buffer as it was. */
+/* One step. Writes the new string over the older buffer, and the contact variables. A refusal leaves every buffer as it was. */
 sv_stepped sv_step(sv_setup setup,
-                   const int32_t *heights, size_t heights_length,
-                   const uint16_t *stiffness, size_t stiffness_length,
-                   int32_t *first, size_t first_length,
+                   const int32_t *heights, size_t heights_length,      /* the neck, as it was laid */
+                   const uint16_t *stiffness, size_t stiffness_length, /* the neck, as it was laid */
+                   int32_t *first, size_t first_length,                /* the strings and contact variables of the call before */
                    int32_t *second, size_t second_length,
                    int32_t *contact, size_t contact_length,
-                   uint32_t turn, sv_finger finger, int32_t pluck, int32_t finger_force);
+                   uint32_t turn,                                      /* 0: the first string is newer; any other number: the second */
+                   sv_finger finger,
+                   int32_t pluck,                                      /* the pluck force, -1,073,741,824 to 1,073,741,824 */
+                   int32_t finger_force);                              /* the finger force, in the same range; below 0 presses */
 
-/* What a block answers: the number of steps made, the refusal that stopped it, 0 if none did, and turn and finger after those steps. */
+/* What a block answers. */
 typedef struct {
-    size_t count;
-    uint32_t refusal, turn;
-    sv_finger finger;
+    size_t count;     /* the number of steps made */
+    uint32_t refusal; /* 0; or 1 to 5, 6, 15, 7 or 11 with count 0; or 12, 13 or 14 of the step that stopped it */
+    uint32_t turn;    /* after the steps made; the number passed in if there is none */
+    sv_finger finger; /* after the steps made */
 } sv_played;
 
-/* A block of n steps: 2n forces, pluck and finger in turn, and 2n samples. Steps are made until the forces end or one is refused (12, 13 or 14); each
-   accepted step writes its frame, bridge first. The samples of a refused step and all later ones are untouched. A refusal of the block
-   itself (1 to 5, 6, 15, 7 or 11) leaves every buffer as it was, with count 0. */
+/* A block of n steps, until the forces end or a step is refused: the steps made stand. Each accepted step writes its frame; the samples of the
+   refused step and all later ones are as they were. A refusal of the block itself (1 to 5, 6, 15, 7 or 11) leaves every buffer as it was. */
 sv_played sv_play_block(sv_setup setup,
-                        const int32_t *heights, size_t heights_length,
+                        const int32_t *heights, size_t heights_length, /* to finger: as for a step */
                         const uint16_t *stiffness, size_t stiffness_length,
                         int32_t *first, size_t first_length,
                         int32_t *second, size_t second_length,
                         int32_t *contact, size_t contact_length,
                         uint32_t turn, sv_finger finger,
-                        const int32_t *forces, size_t forces_length,
-                        float *samples, size_t samples_length);
+                        const int32_t *forces, size_t forces_length, /* 2n forces: of each step the pluck force, then the finger force */
+                        float *samples, size_t samples_length);      /* 2n samples: of each step the bridge, then the neck */
+
+/* Which buffer holds the newest string: 0 the first, at turn 0; 1 the second, at any other number. */
+uint32_t sv_newest(uint32_t turn);
+
+/* What reading a place answers. */
+typedef struct {
+    uint32_t refusal;    /* 0, or 1 to 5, 4 for the place, 6, 7 or 11 */
+    uint32_t pressed;    /* 1 where the string lies below the neck's height there, 0 where it is free */
+    double displacement; /* the newest displacement, divided by 1,048,576; exact; 0 after a refusal */
+    double depth;        /* where pressed, how far below, divided by 1,048,576; exact; otherwise 0 */
+} sv_reading;
+
+/* How the newest string lies over the neck at a place. Nothing is written. */
+sv_reading sv_read_place(sv_setup setup,
+                         const int32_t *heights, size_t heights_length, /* the neck's */
+                         const int32_t *first, size_t first_length,
+                         const int32_t *second, size_t second_length,
+                         uint32_t turn,                                 /* as for a step */
+                         uint32_t place);                               /* 1 to N - 1 */
 
 #ifdef __cplusplus
 }

@@ -2,9 +2,9 @@
 ghost use mathlib.Core.Path.{_≡_};
 ghost use Rattle.model.specs.Answers.{blockResult};
 ghost use Rattle.model.specs.Block.{block};
-ghost use Rattle.capi_setup.specs.Setups.{setupOf};
-use capi_setup::SetupRow;
-use capi_setup::setup_of;
+ghost use Rattle.capi_types.specs.Rows.{setupOf};
+use capi_types::SetupRow;
+use capi_types::setup_of;
 use model::BlockAnswer;
 use model::Finger;
 use voice_block::play_block;

@@ -1,25 +1,14 @@
 // One step, for C.
 ghost use mathlib.Core.Path.{_≡_};
 ghost use Rattle.model.specs.Step as Steps;
-ghost use Rattle.capi_setup.specs.Setups.{setupOf};
-ghost use Rattle.capi.specs.StepCall.{stepCall};
-use capi_setup::SetupRow;
-use capi_setup::setup_of;
-use kernel_samples::frame;
+ghost use Rattle.capi_types.specs.Rows.{setupOf};
+ghost use Rattle.capi.specs.Calls.{stepCall};
+use capi_types::SetupRow;
+use capi_types::StepRow;
+use capi_types::setup_of;
+use capi_types::step_row;
 use model::Finger;
-use model::Frame;
-use model::StepAnswer;
 use voice_step::step;
-
-// What a step answers: the refusal, 0 if there is none, turn, finger and frame. After a refusal turn and finger are those passed in, and the
-// frame is 0.
-#[repr(C)]
-pub struct StepRow {
-    pub refusal: u32,
-    pub turn: u32,
-    pub finger: Finger,
-    pub frame: Frame,
-}
 
 // `voice::step`.
 #[no_mangle]
@@ -52,22 +41,5 @@ pub extern "C" fn sv_step(
         pluck,
         finger_force,
     );
-    match answer {
-        StepAnswer::Accepted(stepped) => {
-            let moved = stepped.finger;
-            let made = stepped.frame;
-            StepRow {
-                refusal: 0,
-                turn: stepped.turn,
-                finger: moved,
-                frame: made,
-            }
-        }
-        StepAnswer::Refused(number) => StepRow {
-            refusal: number,
-            turn,
-            finger,
-            frame: frame(0, 0),
-        },
-    }
+    step_row(answer, turn, finger)
 }

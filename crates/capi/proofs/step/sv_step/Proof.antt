@@ -1,30 +1,36 @@
--- `sv_step` meets its contract: the answer of the step, taken apart.
-use mathlib.Core.Path.{_≡_, sym, _∙_, ap, ap₂}
+-- `sv_step` meets its contract: the row of the step with the setup that the row says, and the buffers that it leaves.
+use mathlib.Core.Path.{_≡_, refl, _∙_, ap, ap₂}
+use mathlib.Core.List.{List}
+use Prim.Native.Nat.{ℕ}
 use borrow.Author.Needs.{needs}
+use lib.IntN.{ℤ}
 use mir.Facts.{toZ-ofZ}
 use Rattle.model.specs.Answers.{stepResult}
-use Rattle.model.specs.Ranges.{inside, displacementOk}
 use Rattle.model.specs.State.{Lent, Neck, Forces}
 use Rattle.model.specs.Step as Steps
 use Rattle.model.specs.Step.{StepResult}
+use Rattle.model.specs.declared.Finger.{Finger}
 use Rattle.model.specs.declared.StepAnswer.{StepAnswer}
 use Rattle.model.specs.declared.StepAnswer.the-variants.{Accepted, Refused}
-use Rattle.capi_setup.specs.Setups.{setupOf}
-use Rattle.capi.specs.StepCall.{stepCall}
+use Rattle.capi_types.specs.Rows.{setupOf, stepRow}
+use Rattle.capi_types.specs.declared.step.StepRow.{StepRow}
+use Rattle.capi.specs.Calls.{StepCall, stepCall}
 use Rattle.capi.proofs.step.sv_step.Statement.{statement}
 use Rattle.capi.proofs.step.sv_step.Tie as tie
 use Rattle.capi.proofs.step.sv_step.Reads as reads
 use Rattle.capi.proofs.step.sv_step.Lts as lts
-use Rattle.capi_setup.proofs.setup_of.Reads as setup-of-reads
-use Rattle.kernel_samples.proofs.frame.Reads as frame-reads
+use Rattle.capi_types.proofs.setup_of.Reads as setup-of-reads
+use Rattle.capi_types.proofs.step_row.Reads as step-row-reads
 use Rattle.voice_step.proofs.step.Reads as step-reads
 
 abbrev Learnt : lts.Claims
-Learnt = (setup-of-reads.Asked, setup-of-reads.Learnt, step-reads.Asked, step-reads.Learnt, frame-reads.Asked, frame-reads.Learnt)
+Learnt = (setup-of-reads.Asked, setup-of-reads.Learnt, step-reads.Asked, step-reads.Learnt, step-row-reads.Asked, step-row-reads.Learnt)
 
-frame-requires : tie.Need-frame-requires
-unfolding displacementOk inside
-frame-requires c κs = (tt, tt)
+-- the row of a result and its buffers are its call, whatever the answer
+gathered : (turn : ℕ) (finger : Finger) (a : StepAnswer) (first second contact : List ℤ)
+    → record { row = stepRow (stepResult turn finger a first second contact); first = first; second = second; contact = contact } ≡ stepCall (stepResult turn finger a first second contact)
+gathered turn finger (Accepted a) first second contact = refl
+gathered turn finger (Refused n) first second contact = refl
 
 module _ (c : lts.After-step Learnt reads.Pre reads.Post) where
   abbrev made-from : lts.After-setup-of Learnt reads.Pre reads.Post
@@ -42,40 +48,32 @@ module _ (c : lts.After-step Learnt reads.Pre reads.Post) where
   abbrev F : Forces
   F = record { pluck = k .args .pluck; finger = k .args .finger-force }
 
-  -- the step's result, of any answer that is its own
-  abbrev resultOf : StepAnswer → StepResult
-  resultOf r = stepResult (v .turn) (v .finger) r (c .step .last .1 .1 .1 .0) (c .step .last .1 .1 .1 .1 .0) (c .step .last .1 .1 .1 .1 .1 .0)
+  -- the three buffers after the call
+  abbrev first : List ℤ
+  first = c .step .last .1 .1 .1 .0
 
-  stepped : (r : StepAnswer) → c .step .result ≡ r → resultOf r ≡ Steps.step (setupOf (k .args .setup)) neck v F
-  stepped r e = sym (ap resultOf e) ∙ c .step .ensures
+  abbrev second : List ℤ
+  second = c .step .last .1 .1 .1 .1 .0
+
+  abbrev contact : List ℤ
+  contact = c .step .last .1 .1 .1 .1 .1 .0
+
+  abbrev result : StepResult
+  result = stepResult (v .turn) (v .finger) (c .step .result) first second contact
+
+  stepped : result ≡ Steps.step (setupOf (k .args .setup)) neck v F
+  stepped = c .step .ensures
       ∙ ap₂ (λ s F. Steps.step s neck v F) (made-from .setup-of .ensures) (ap₂ (λ pluck force. record { pluck = pluck; finger = force }) (toZ-ofZ (k .fits .pluck)) (toZ-ofZ (k .fits .finger-force)))
+
+  called : (row : StepRow) → row ≡ stepRow result → record { row = row; first = first; second = second; contact = contact } ≡ stepCall (Steps.step (setupOf (k .args .setup)) neck v F)
+  called row e = ap (λ r. record { row = r; first = first; second = second; contact = contact }) e
+      ∙ gathered (v .turn) (v .finger) (c .step .result) first second contact ∙ ap stepCall stepped
 
 returns : tie.Need-returns
 returns c =
-    let known = c .before .before .before .answer .given in
-    ap stepCall (stepped (c .before .before .before .before .before .before .before .before) (Accepted (known .0 .0)) (known .1))
-
-returns-2 : tie.Need-returns-2
-returns-2 c =
-    let known = c .before .before .answer2 .given in
-    let d = c .before .before .before .before .before .before .before in
-    ap (λ f. record { row = record { refusal = known .0 .0; turn = v d .turn; finger = v d .finger; frame = f }; first = d .step .last .1 .1 .1 .0; second = d .step .last .1 .1 .1 .1 .0; contact = d .step .last .1 .1 .1 .1 .1 .0 }) (c .frame .ensures)
-    ∙ ap stepCall (stepped d (Refused (known .0 .0)) (known .1))
+    let d = c .before .before .before .before in
+    called d (c .step-row .result) (c .step-row .ensures (first d) (second d) (contact d))
 
 pub sv-step-spec : {M : Type 1} → statement M
 sv-step-spec =
-    tie.close
-    (tie.spec
-    (λ c κs. tt)
-    (λ c κs. tt)
-    (λ c. search needs)
-    (λ c. search needs)
-    frame-requires
-    (λ c. search needs)
-    (λ c. search needs)
-    (λ c. search needs)
-    returns
-    (λ c. search needs)
-    (λ c. search needs)
-    (λ c. search needs)
-    returns-2)
+    tie.close (tie.spec (λ c κs. tt) (λ c κs. tt) (λ c κs. tt) (λ c. search needs) (λ c. search needs) (λ c. search needs) returns)

@@ -1,8 +1,11 @@
-// The setup for C: its eleven numbers in one row, and the setup that a row says.
+// The setup for C, its eleven numbers in one row; and the refusal of a setup and of a neck, which for C is the whole answer.
 ghost use mathlib.Core.Path.{_≡_};
-ghost use Rattle.capi_setup.specs.Setups.{setupOf};
+ghost use Rattle.model.specs.Answers.{setupResult, neckAnswer};
+ghost use Rattle.capi_types.specs.Rows.{setupOf, number};
 use model::FingerSetup;
+use model::NeckAnswer;
 use model::Setup;
+use model::SetupAnswer;
 
 // 01, 'Setup', in one row.
 #[repr(C)]
@@ -38,5 +41,25 @@ pub fn setup_of(row: SetupRow) -> Setup
         pluck_place: row.pluck_place,
         bridge_place: row.bridge_place,
         neck_place: row.neck_place,
+    }
+}
+
+// The refusal of a setup, 0 where it is accepted.
+pub fn setup_refusal(answer: SetupAnswer) -> u32
+    ensures { λ r. ⌜ r ≡ number (setupResult answer) ⌝ }
+{
+    match answer {
+        SetupAnswer::Accepted(_) => 0,
+        SetupAnswer::Refused(refusal) => refusal,
+    }
+}
+
+// The refusal of a neck, 0 where it is laid.
+pub fn neck_refusal(answer: NeckAnswer) -> u32
+    ensures { λ r. ⌜ r ≡ number (neckAnswer answer) ⌝ }
+{
+    match answer {
+        NeckAnswer::Accepted => 0,
+        NeckAnswer::Refused(refusal) => refusal,
     }
 }

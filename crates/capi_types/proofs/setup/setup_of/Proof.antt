@@ -1,7 +1,7 @@
 -- `setup_of` meets its contract: each number stands where it belongs.
 use mathlib.Core.Path.{refl}
-use Rattle.capi_setup.proofs.setup_of.Statement.{statement}
-use Rattle.capi_setup.proofs.setup_of.Tie as tie
+use Rattle.capi_types.proofs.setup.setup_of.Statement.{statement}
+use Rattle.capi_types.proofs.setup.setup_of.Tie as tie
 
 returns : tie.Need-returns
 returns c = refl

@@ -1,0 +1,39 @@
+-- `reading_row` meets its contract, by the case of the answer.
+use mathlib.Core.Path.{_≡_, sym, _∙_, ap, ap₂}
+use borrow.Author.Needs.{needs}
+use lib.Ieee.{Float}
+use Rattle.model.specs.Ranges.{inside, displacementOk}
+use Rattle.capi_types.specs.Rows.{none, readingRow}
+use Rattle.capi_types.specs.declared.reading.ReadingRow.{ReadingRow}
+use Rattle.capi_types.proofs.reading.reading_row.Statement.{statement}
+use Rattle.capi_types.proofs.reading.reading_row.Tie as tie
+use Rattle.capi_types.proofs.reading.reading_row.Reads as reads
+use Rattle.capi_types.proofs.reading.reading_row.Lts as lts
+use Rattle.kernel_samples.proofs.double.Reads as double-reads
+
+abbrev Learnt : lts.Claims
+Learnt = (double-reads.Asked, double-reads.Learnt)
+
+double-requires : tie.Need-double-requires
+unfolding displacementOk inside
+double-requires c κs = tt
+
+-- 0 divided by 1,048,576
+zero-is : (c : lts.After-double Learnt reads.Pre reads.Post) → c .double .result ≡ none
+zero-is c = c .double .ensures .0
+
+returns : tie.Need-returns
+returns c =
+    let known = c .before .answer .given in
+    ap (λ x. record { refusal = 0; pressed = 0; displacement = known .0 .0; depth = x }) (zero-is (c .before .before .before)) ∙ sym (ap readingRow (known .1))
+
+returns-2 : tie.Need-returns-2
+returns-2 c = sym (ap readingRow (c .before .answer2 .given .1))
+
+returns-3 : tie.Need-returns-3
+returns-3 c =
+    let known = c .before .answer3 .given in
+    ap (λ x. record { refusal = known .0 .0; pressed = 0; displacement = x; depth = x }) (zero-is (c .before .before .before)) ∙ sym (ap readingRow (known .1))
+
+pub reading-row-spec : {M : Type 1} → statement M
+reading-row-spec = tie.close (tie.spec double-requires (λ c. search needs) (λ c. search needs) (λ c. search needs) returns returns-2 returns-3)
