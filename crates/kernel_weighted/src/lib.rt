@@ -1,13 +1,25 @@
 // The weighted string: the string terms of c in 01, 'One step', are D1 of this one string, with 0 at both ends.
 ghost use mathlib.Core.Path.{_≡_};
 ghost use lib.Dec.{T};
+ghost use Prim.Native.Nat.{_≤_};
 ghost use lib.IntN.{pos, _+ℤ_, _-ℤ_, _*ℤ_};
+ghost use Rattle.integers.specs.Size.{_within_};
 ghost use Rattle.model.specs.Ranges.{displacementOk};
 ghost use Rattle.model.specs.Setup.{setupRules};
 ghost use Rattle.promises.specs.Promises.{Passed};
 ghost use Rattle.kernel_weighted.specs.Weighted;
 ghost use Rattle.kernel_weighted.specs.Weighted.{placed, StringRanges};
 use model::Setup;
+
+// factor·(x + low), where x is not below −low. The product is of two numbers of 32 bits that are not negative, for which every x86-64 processor has a vector
+// instruction; for signed numbers, or numbers of 64 bits, not every one has.
+fn raised_product(factor: u32, x: i32, low: u32) -> i64
+    requires { ⌜ (factor ≤ 8192) × (x within low) × (low ≤ 2097152) ⌝ }
+    ensures { λ r. ⌜ r ≡ pos factor *ℤ (x +ℤ pos low) ⌝ }
+{
+    let raised = (x + (low as i32)) as u32;
+    ((factor as u64) * (raised as u64)) as i64
+}
 
 // The weighted string at a point: L·u − M·D1u + S·(u − v), from u there and at both neighbours and v there.
 fn weigh(setup: Setup, left: i32, own: i32, right: i32, older: i32) -> i64
@@ -17,9 +29,10 @@ fn weigh(setup: Setup, left: i32, own: i32, right: i32, older: i32) -> i64
     let l = setup.tension;
     let m = setup.stiffness;
     let s = setup.viscous;
-    let centre = (l as i64) + 2 * (m as i64) + (s as i64);
-    let sides = (left as i64) + (right as i64);
-    centre * (own as i64) - (m as i64) * sides - (s as i64) * (older as i64)
+    let at_own = raised_product(l + 2 * m + s, own, 1048576);
+    let at_sides = raised_product(m, left + right, 2097152);
+    let at_older = raised_product(s, older, 1048576);
+    at_own - at_sides - at_older - 1048576 * (l as i64)
 }
 
 // The weighted string, by place.

@@ -1,0 +1,35 @@
+/* 01, 'One step' and 'Energy', checked of what an accepted step did: moves are read off the states before and after it, all else is worked out anew. */
+#ifndef BALANCE_H
+#define BALANCE_H
+
+#include "../host/stored_energy.h"
+
+typedef struct {
+    const int32_t *newer, *older, *contact; /* N - 1 numbers each */
+    sv_finger finger;
+} voice_state;
+
+typedef struct {
+    sv_setup setup; /* one that is accepted */
+    const int32_t *heights;
+    const uint16_t *stiffness;
+    voice_state before, after;
+    int32_t pluck, finger_force;
+} made_step;
+
+/* What the steps checked so far had in them. */
+typedef struct {
+    unsigned long long steps;        /* checked */
+    unsigned long long on_neck;      /* with a gradient above 0 at a point */
+    unsigned long long under_finger; /* with the finger's gradient above 0 */
+    unsigned long long at_limit;     /* with a doubled residual as large as its limit, as after a tie */
+    unsigned long long lossy;        /* with a loss other than 0 */
+    unsigned long long worked;       /* with a work other than 0 */
+} balance_tally;
+extern balance_tally balanced;
+
+/* What is wrong with the step, in words, or NULL. Checked: what was newer is older now, residual limits, contact variables, the energy equation, and that
+   no stored energy or loss is negative. */
+const char *balance_fault(const made_step *step);
+
+#endif

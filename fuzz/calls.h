@@ -1,0 +1,29 @@
+/* The calls of the library, one function for each: each is made on the library's pages and by its oracle on the oracle's, and both must agree in every bit. */
+#ifndef CALLS_H
+#define CALLS_H
+
+#include "arguments.h"
+
+enum { CHECK_SETUP, LAY_NECK, FRESH_START, STEP, PLAY_BLOCK, NEWEST, READ_PLACE, FUNCTIONS, REFUSALS = 16 };
+
+typedef struct {
+    const char *name;
+    unsigned refusals;                      /* the numbers that it can give, as bits */
+    unsigned long long answered[REFUSALS];  /* calls by their refusal; 0 is accepted */
+} function_tally;
+extern function_tally functions[FUNCTIONS];
+
+void calls_open(void);
+
+uint32_t call_check_setup(sv_setup setup);
+uint32_t call_lay_neck(sv_setup setup, const neck_plan *plan, lent *heights, lent *stiffness);
+void call_newest(uint32_t turn);
+uint32_t call_read_place(const voice *v, uint32_t place);
+uint32_t call_step_on_copy(const voice *v, int32_t pluck, int32_t finger_force); /* the refusal; the voice stays as it is */
+
+/* These three go on with the voice: turn and finger become those that the call answers. They answer the refusal. */
+uint32_t call_fresh_start(voice *v, int32_t height, int32_t older_height);
+uint32_t call_step(voice *v, int32_t pluck, int32_t finger_force, sv_frame *frame);
+uint32_t call_play_block(voice *v, lent *forces, lent *samples);
+
+#endif

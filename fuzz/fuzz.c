@@ -1,0 +1,277 @@
+/* Calls all functions of the library with drawn arguments, one by one and in runs, until there are enough calls; then prints what they answered. */
+#include <stdio.h>
+#include <stdlib.h>
+#include <time.h>
+#include "balance.h"
+#include "bounds.h"
+#include "draw.h"
+#include "fault.h"
+#include "rules.h"
+
+static lent board, frets, heights, stiffness, first, second, contact, forces, samples, vast;
+static voice v = {.heights = &heights, .stiffness = &stiffness, .first = &first, .second = &second, .contact = &contact};
+static neck_plan plan = {.board = &board, .frets = &frets};
+
+static void open_buffers(void)
+{
+    lent_open(&board, "board", sizeof(int32_t));
+    lent_open(&frets, "frets", sizeof(uint32_t));
+    lent_open(&heights, "heights", sizeof(int32_t));
+    lent_open(&stiffness, "stiffness", sizeof(uint16_t));
+    lent_open(&first, "first", sizeof(int32_t));
+    lent_open(&second, "second", sizeof(int32_t));
+    lent_open(&contact, "contact", sizeof(int32_t));
+    lent_open(&forces, "forces", sizeof(int32_t));
+    lent_open(&samples, "samples", sizeof(float));
+    lent_open_vast(&vast, "a vast buffer");
+    lent_watch();
+}
+
+/* A buffer that is only written, and holds anything before. */
+static void place_for_writing(lent *buffer, size_t points, unsigned changes)
+{
+    lent_place(buffer, draw_length(points, changes));
+    lent_settle(buffer);
+}
+
+static uint32_t lay_neck(size_t points, unsigned changes)
+{
+    draw_plan(&plan, points, changes);
+    place_for_writing(&heights, points, changes);
+    place_for_writing(&stiffness, points, changes);
+    return call_lay_neck(v.setup, &plan, &heights, &stiffness);
+}
+
+static uint32_t fresh_start(size_t points, unsigned changes)
+{
+    int32_t height, older_height;
+    place_for_writing(&first, points, changes);
+    place_for_writing(&second, points, changes);
+    place_for_writing(&contact, points, changes);
+    draw_start(&height, &older_height, changes);
+    return call_fresh_start(&v, height, older_height);
+}
+
+/* Answers the points that the lengths go by. */
+static size_t draw_voice(unsigned changes)
+{
+    size_t points = draw_setup(&v.setup, changes);
+    draw_neck(&v, points, changes);
+    draw_state(&v, points, changes);
+    return points;
+}
+
+static void single_setup(void)
+{
+    draw_setup(&v.setup, draw_changes(SETUP));
+    call_check_setup(v.setup);
+}
+
+static void single_neck(void)
+{
+    unsigned changes = draw_changes(SETUP | LENGTH | HEIGHT | FRETS | TIP);
+    lay_neck(draw_setup(&v.setup, changes), changes);
+}
+
+static void single_start(void)
+{
+    unsigned changes = draw_changes(SETUP | LENGTH | STATE);
+    fresh_start(draw_setup(&v.setup, changes), changes);
+}
+
+static void single_step(void)
+{
+    unsigned changes = draw_changes(SETUP | LENGTH | HEIGHT | STATE | FORCES), of_pluck = one_in(2) ? changes : 0;
+    draw_voice(changes);
+    int32_t pluck = draw_force(&v.setup, FORCE, of_pluck), finger_force = draw_force(&v.setup, FORCE, changes & ~of_pluck);
+    sv_frame frame;
+    call_step(&v, pluck, finger_force, &frame);
+}
+
+static void single_block(void)
+{
+    unsigned changes = draw_changes(SETUP | LENGTH | HEIGHT | STATE | FORCES | COUNTS);
+    draw_voice(changes);
+    draw_forces(&forces, &samples, &v.setup, 40, (uint32_t)FORCE >> draw_below(31), changes);
+    call_play_block(&v, &forces, &samples);
+}
+
+static void single_bound(void)
+{
+    draw_voice(0);
+    int32_t pluck = draw_force(&v.setup, FORCE, 0), finger_force = draw_force(&v.setup, FORCE, 0);
+    meet_bound(&v, pluck, finger_force);
+}
+
+static void single_newest(void) { call_newest(draw_turn()); }
+
+static void single_reading(void)
+{
+    unsigned changes = draw_changes(SETUP | LENGTH | HEIGHT | STATE | PLACE);
+    uint32_t place = draw_place(draw_voice(changes), changes);
+    voice read = v;
+    if (one_in(16))
+        read.second = read.first; /* both are const, so they may be one buffer */
+    call_read_place(&read, place);
+}
+
+/* In place of one buffer that is in order, one of 2^32 elements more: the lengths differ above their 32nd bit alone. */
+static void single_vast(void)
+{
+    size_t points = draw_voice(0);
+    voice given = v;
+    neck_plan given_plan = plan;
+    draw_plan(&given_plan, points, 0);
+    draw_forces(&forces, &samples, &v.setup, 4, FORCE, 0);
+    lent *of_forces = &forces, *of_samples = &samples;
+    lent **buffers[] = {&given.heights, &given.stiffness, &given.first, &given.second, &given.contact, &given_plan.board, &of_forces, &of_samples};
+    lent **one = buffers[draw_below(8)];
+    vast.length = VAST + (*one)->length;
+    *one = &vast;
+    sv_frame frame;
+    switch (draw_below(5)) {
+    case 0: call_lay_neck(given.setup, &given_plan, given.heights, given.stiffness); break;
+    case 1: call_fresh_start(&given, 0, 0); break;
+    case 2: call_read_place(&given, draw_place(points, 0)); break;
+    case 3: call_step(&given, 0, 0, &frame); break;
+    default: call_play_block(&given, of_forces, of_samples);
+    }
+}
+
+/* The next call of a run, with forces up to a size; its refusal. */
+static uint32_t next_of_run(size_t points, uint32_t greatest)
+{
+    unsigned changes = one_in(16) ? FORCES : 0;
+    sv_frame frame;
+    switch (draw_below(16)) {
+    case 0:
+        return call_read_place(&v, draw_place(points, 0));
+    case 1:
+        call_newest(v.turn);
+        return 0;
+    case 2:
+        draw_forces(&forces, &samples, &v.setup, 24, greatest, changes);
+        return call_play_block(&v, &forces, &samples);
+    default: {
+        int32_t pluck = draw_force(&v.setup, greatest, changes), finger_force = draw_force(&v.setup, greatest, 0);
+        return call_step(&v, pluck, finger_force, &frame);
+    }
+    }
+}
+
+/* A voice from its neck and its fresh start on. Once it leaves its range it may go on from there, or end. */
+static void run_of_calls(void)
+{
+    size_t points = draw_setup(&v.setup, 0);
+    uint32_t greatest = (uint32_t)FORCE >> draw_below(18), calls = (one_in(8) ? 400 : 8) + draw_below(56), refusal = 0;
+    if (lay_neck(points, 0) || fresh_start(points, 0))
+        fault("the neck or the fresh start of a run was refused");
+    for (; calls > 0 && !(refusal >= 13 && one_in(3)); calls--) {
+        refusal = next_of_run(points, greatest);
+        if (v.turn != 0 && one_in(4))
+            v.turn = 1 + draw_below(UINT32_MAX);
+    }
+}
+
+/* Each kind with its share of 64 draws. A run makes some 80 calls, the search for a bound up to 34. */
+static const struct {
+    void (*calls)(void);
+    uint32_t share;
+} kinds[] = {{single_step, 22},  {single_reading, 9}, {single_neck, 8}, {single_setup, 6},  {single_start, 6},
+             {single_bound, 6}, {single_block, 4},   {single_vast, 1}, {run_of_calls, 1}, {single_newest, 1}};
+
+static void draw_calls(void)
+{
+    uint32_t drawn = draw_below(64), kind = 0;
+    while (drawn >= kinds[kind].share)
+        drawn -= kinds[kind++].share;
+    kinds[kind].calls();
+}
+
+/* A blank stands where a function has no such refusal. */
+static void print_row(const function_tally *row)
+{
+    unsigned long long calls = 0;
+    for (int refusal = 0; refusal < REFUSALS; refusal++)
+        calls += row->answered[refusal];
+    printf("%-15s%10llu%10llu", row->name, calls, row->answered[0]);
+    for (int refusal = 1; refusal < REFUSALS; refusal++)
+        if (row->refusals >> refusal & 1)
+            printf("%8llu", row->answered[refusal]);
+        else
+            printf("%8s", "");
+    printf("\n");
+}
+
+static void print_table(void)
+{
+    function_tally all = {.name = "all"};
+    printf("%-15s%10s%10s", "function", "calls", "accepted");
+    for (int refusal = 1; refusal < REFUSALS; refusal++)
+        printf("%8d", refusal);
+    printf("\n");
+    for (int f = 0; f < FUNCTIONS; f++) {
+        print_row(&functions[f]);
+        all.refusals |= functions[f].refusals;
+        for (int refusal = 0; refusal < REFUSALS; refusal++)
+            all.answered[refusal] += functions[f].answered[refusal];
+    }
+    print_row(&all);
+    printf("accepted steps checked for balance: %llu\n", balanced.steps);
+    printf("of these on the neck %llu, under the finger %llu, with a residual at its limit %llu, with loss %llu, with work %llu\n", balanced.on_neck,
+           balanced.under_finger, balanced.at_limit, balanced.lossy, balanced.worked);
+    printf("bounds met to the unit: of 13 %llu, of 14 %llu\n", bounds_met[13], bounds_met[14]);
+}
+
+/* Whether each function was accepted, and gave each of its refusals. */
+static int all_met(void)
+{
+    int all = 1;
+    for (int f = 0; f < FUNCTIONS; f++)
+        for (int refusal = 0; refusal < REFUSALS; refusal++)
+            if ((refusal == 0 || functions[f].refusals >> refusal & 1) && functions[f].answered[refusal] == 0) {
+                printf("fuzz: %s: %s %d was never met\n", functions[f].name, refusal ? "refusal" : "answer", refusal);
+                all = 0;
+            }
+    return all;
+}
+
+static double seconds(void)
+{
+    struct timespec t;
+    clock_gettime(CLOCK_MONOTONIC, &t);
+    return (double)t.tv_sec + 1e-9 * (double)t.tv_nsec;
+}
+
+static unsigned long long number(const char *text)
+{
+    char *end;
+    unsigned long long value = strtoull(text, &end, 10);
+    if (*text < '0' || *text > '9' || *end) {
+        fprintf(stderr, "fuzz: '%s' is not a number\n", text);
+        exit(2);
+    }
+    return value;
+}
+
+int main(int count, char **texts)
+{
+    if (count != 3) {
+        fprintf(stderr, "fuzz: the number of calls and the seed are missing\n");
+        return 2;
+    }
+    unsigned long long enough = number(texts[1]), seed = number(texts[2]);
+    double start = seconds();
+    draw_from_seed(seed);
+    watch_calls(seed);
+    calls_open();
+    open_buffers();
+    while (calls_made < enough)
+        draw_calls();
+    print_table();
+    printf("seed %llu, %.1f s\n", seed, seconds() - start);
+    if (!all_met())
+        return 1;
+    printf("fuzz: %llu calls, 0 faults\n", calls_made);
+    return 0;
+}
