@@ -1,10 +1,12 @@
-/* How long one step takes, alone and in a block: the product beside plain C of the same scheme, free and in contact, for several N. Each is timed
-   in many short stretches that alternate, and the best of each counts; after every scene the voices must agree in every bit. */
+/* How long one step takes, alone and in a block: the product beside plain C of the same scheme with the same refusals, and beside double precision
+   without any; free and in contact, for several N. Each is timed in many short stretches that alternate. The whole-number voices must agree in every bit,
+   and on a free string the double-precision ones nearly. */
+#include <math.h>
 #include <stdio.h>
 #include <stdlib.h>
 #include <string.h>
 #include <time.h>
-#include "../include/string_voice.h"
+#include "double.h"
 
 typedef sv_stepped step_function(sv_setup, const int32_t *, size_t, const uint16_t *, size_t, int32_t *, size_t, int32_t *, size_t, int32_t *, size_t,
                                  uint32_t, sv_finger, int32_t, int32_t);
@@ -12,21 +14,47 @@ typedef sv_played block_function(sv_setup, const int32_t *, size_t, const uint16
                                  uint32_t, sv_finger, const int32_t *, size_t, float *, size_t);
 step_function plain_step_o2, plain_step_o3;
 block_function plain_block_o2, plain_block_o3;
+double_step_function double_step_o2, double_step_o3;
+double_block_function double_block_o2, double_block_o3;
 
-enum { STEPS = 64, STRETCHES = 400, WARM_UP = 60, KINDS = 3 };
-static step_function *const step[KINDS] = {sv_step, plain_step_o2, plain_step_o3};
-static block_function *const block[KINDS] = {sv_play_block, plain_block_o2, plain_block_o3};
+/* A pluck comes every CYCLE stretches of STEPS steps. The kinds are WHOLE ones in whole numbers, then REAL ones in double
+   precision. */
+enum { STEPS = 64, CYCLE = 8, CYCLES = 150, WARM_UP = 4, WHOLE = 3, REAL = 2, KINDS = WHOLE + REAL, SIZES = 5 };
+static step_function *const step[WHOLE] = {sv_step, plain_step_o2, plain_step_o3};
+static block_function *const block[WHOLE] = {sv_play_block, plain_block_o2, plain_block_o3};
+static double_step_function *const double_step[REAL] = {double_step_o2, double_step_o3};
+static double_block_function *const double_block[REAL] = {double_block_o2, double_block_o3};
 
-static int32_t heights[127];
-static uint16_t stiffness[127];
+/* How far a sample of a free string in double precision may be from the product's: this part of the loudest one. */
+#define TOLERANCE 0.005
 
 typedef struct {
     int32_t first[127], second[127], contact[127];
     uint32_t turn;
     sv_finger finger;
-    long made, pressed;
     float samples[2 * STEPS];
 } voice;
+
+typedef struct {
+    double first[127], second[127], contact[127];
+    uint32_t turn;
+    double_finger finger;
+    float samples[2 * STEPS];
+} double_voice;
+
+/* A scene, its voices (first those that make single steps, then those that play blocks), and what came of it. */
+typedef struct {
+    sv_setup setup;
+    int in_contact;
+    int32_t heights[127];
+    uint16_t stiffness[127];
+    double double_heights[127], double_stiffness[127];
+    voice whole[2][WHOLE];
+    double_voice real[2][REAL];
+    double best[2][KINDS][CYCLE]; /* ns a step */
+    long pressed, double_pressed, looked_at; /* points, after each stretch */
+    double loudest, apart; /* samples */
+} scene;
 
 static double nanoseconds(void)
 {
@@ -35,28 +63,29 @@ static double nanoseconds(void)
     return 1e9 * t.tv_sec + t.tv_nsec;
 }
 
-static void refused(uint32_t refusal, long made)
+static void fail(const char *what)
 {
-    printf("refused with %u at step %ld\n", refusal, made);
+    printf("%s\n", what);
     exit(1);
 }
 
-/* A pluck every 500 steps, and no finger force. */
-static void forces_of(long made, int32_t *forces)
+/* The forces of a stretch: a pluck upward at the start of a cycle, then nothing, or in contact a light push toward the neck; no finger force. */
+static void forces_of(const scene *c, int phase, int32_t *forces)
 {
     for (int j = 0; j < STEPS; j++) {
-        forces[2 * j] = (made + j) % 500 < 30 ? 9000000 : 0;
+        forces[2 * j] = phase == 0 && j < 30 ? 9000000 : c->in_contact ? -500000 : 0;
         forces[2 * j + 1] = 0;
     }
 }
 
-static void by_steps(int kind, sv_setup s, voice *v, const int32_t *forces)
+static void whole_steps(scene *c, int kind, voice *v, const int32_t *forces)
 {
-    size_t n = s.segments - 1;
+    size_t n = c->setup.segments - 1;
     for (int j = 0; j < STEPS; j++) {
-        sv_stepped r = step[kind](s, heights, n, stiffness, n, v->first, n, v->second, n, v->contact, n, v->turn, v->finger, forces[2 * j], forces[2 * j + 1]);
+        sv_stepped r = step[kind](c->setup, c->heights, n, c->stiffness, n, v->first, n, v->second, n, v->contact, n, v->turn, v->finger,
+                                  forces[2 * j], forces[2 * j + 1]);
         if (r.refusal)
-            refused(r.refusal, v->made + j);
+            fail("a step is refused");
         v->turn = r.turn;
         v->finger = r.finger;
         v->samples[2 * j] = r.frame.bridge;
@@ -64,73 +93,166 @@ static void by_steps(int kind, sv_setup s, voice *v, const int32_t *forces)
     }
 }
 
-static void by_block(int kind, sv_setup s, voice *v, const int32_t *forces)
+static void whole_block(scene *c, int kind, voice *v, const int32_t *forces)
 {
-    size_t n = s.segments - 1;
-    sv_played r = block[kind](s, heights, n, stiffness, n, v->first, n, v->second, n, v->contact, n, v->turn, v->finger, forces, 2 * STEPS, v->samples, 2 * STEPS);
+    size_t n = c->setup.segments - 1;
+    sv_played r = block[kind](c->setup, c->heights, n, c->stiffness, n, v->first, n, v->second, n, v->contact, n, v->turn, v->finger,
+                              forces, 2 * STEPS, v->samples, 2 * STEPS);
     if (r.refusal)
-        refused(r.refusal, v->made + (long)r.count);
+        fail("a block is refused");
     v->turn = r.turn;
     v->finger = r.finger;
 }
 
-/* One stretch; how long a step took. */
-static double stretch(int kind, int blocks, sv_setup s, voice *v)
+static void double_steps(scene *c, int kind, double_voice *v, const int32_t *forces)
 {
-    int32_t forces[2 * STEPS];
-    forces_of(v->made, forces);
-    double start = nanoseconds();
-    if (blocks)
-        by_block(kind, s, v, forces);
-    else
-        by_steps(kind, s, v, forces);
-    double taken = (nanoseconds() - start) / STEPS;
-    v->made += STEPS;
-    const int32_t *newest = v->turn ? v->second : v->first;
-    for (size_t i = 0; i < s.segments - 1; i++)
-        v->pressed += newest[i] < heights[i];
-    return taken;
+    for (int j = 0; j < STEPS; j++) {
+        double_stepped r = double_step[kind](c->setup, c->double_heights, c->double_stiffness, v->first, v->second, v->contact, v->turn, v->finger,
+                                             forces[2 * j], forces[2 * j + 1]);
+        v->turn = r.turn;
+        v->finger = r.finger;
+        v->samples[2 * j] = r.frame.bridge;
+        v->samples[2 * j + 1] = r.frame.neck;
+    }
 }
 
-static void scene(uint32_t segments, int contact)
+static void double_blocks(scene *c, int kind, double_voice *v, const int32_t *forces)
 {
-    size_t n = segments - 1;
-    sv_setup s = {segments, 2000, 100, 50, 20, 500, 4096, segments / 3, segments / 2, segments - 2, segments * 2 / 3};
-    for (size_t i = 0; i < n; i++) {
-        heights[i] = contact && i % 5 < 3 ? 0 : -1000000; /* in contact: the neck is close under three points of five */
-        stiffness[i] = 3000;
+    double_played r = double_block[kind](c->setup, c->double_heights, c->double_stiffness, v->first, v->second, v->contact, v->turn, v->finger,
+                                         forces, STEPS, v->samples);
+    v->turn = r.turn;
+    v->finger = r.finger;
+}
+
+/* One stretch of one voice; how long a step took. */
+static double stretch(scene *c, int blocks, int kind, const int32_t *forces)
+{
+    double start = nanoseconds();
+    if (kind < WHOLE)
+        (blocks ? whole_block : whole_steps)(c, kind, &c->whole[blocks][kind], forces);
+    else
+        (blocks ? double_blocks : double_steps)(c, kind - WHOLE, &c->real[blocks][kind - WHOLE], forces);
+    return (nanoseconds() - start) / STEPS;
+}
+
+static void compare(scene *c)
+{
+    const voice *product = &c->whole[0][0];
+    for (int k = 1; k < 2 * WHOLE; k++)
+        if (memcmp(product, &c->whole[k / WHOLE][k % WHOLE], sizeof *product))
+            fail("the whole-number voices differ");
+    for (int k = 0; k < 2 * REAL; k++)
+        for (int j = 0; j < 2 * STEPS; j++) {
+            c->loudest = fmax(c->loudest, fabs(product->samples[j]));
+            c->apart = fmax(c->apart, fabs(product->samples[j] - c->real[k / REAL][k % REAL].samples[j]));
+        }
+}
+
+static void count_pressed(scene *c)
+{
+    const voice *v = &c->whole[0][0];
+    const double_voice *d = &c->real[0][0];
+    const int32_t *newest = v->turn ? v->second : v->first;
+    const double *double_newest = d->turn ? d->second : d->first;
+    for (size_t i = 0; i < c->setup.segments - 1; i++) {
+        c->pressed += newest[i] < c->heights[i];
+        c->double_pressed += double_newest[i] < c->double_heights[i];
+        c->looked_at++;
     }
-    voice voices[2 * KINDS];
-    double best[2 * KINDS];
+}
+
+/* One stretch of every voice. */
+static void round_of(scene *c, int phase, int timed)
+{
+    int32_t forces[2 * STEPS];
+    forces_of(c, phase, forces);
     for (int k = 0; k < 2 * KINDS; k++) {
-        memset(&voices[k], 0, sizeof voices[k]);
-        voices[k].finger = (sv_finger){100000, 100000, 0};
-        best[k] = 1e18;
+        double taken = stretch(c, k / KINDS, k % KINDS, forces), *best = &c->best[k / KINDS][k % KINDS][phase];
+        if (timed && taken < *best)
+            *best = taken;
     }
-    for (int round = -WARM_UP; round < STRETCHES; round++)
-        for (int k = 0; k < 2 * KINDS; k++) {
-            double taken = stretch(k % KINDS, k / KINDS, s, &voices[k]);
-            if (round >= 0 && taken < best[k])
-                best[k] = taken;
+    compare(c);
+    count_pressed(c);
+}
+
+static void lay_out(scene *c, uint32_t segments, int in_contact)
+{
+    memset(c, 0, sizeof *c);
+    c->setup = (sv_setup){segments, 2000, 100, 50, 20, 500, 4096, segments / 3, segments / 2, segments - 2, segments * 2 / 3};
+    c->in_contact = in_contact;
+    for (size_t i = 0; i < segments - 1; i++) {
+        c->double_heights[i] = c->heights[i] = in_contact && i % 3 < 2 ? 0 : -1000000; /* in contact: the neck is close under two points of three */
+        c->double_stiffness[i] = c->stiffness[i] = 3000;
+    }
+    for (int blocks = 0; blocks < 2; blocks++)
+        for (int k = 0; k < KINDS; k++) {
+            if (k < WHOLE)
+                c->whole[blocks][k].finger = (sv_finger){100000, 100000, 0};
+            else
+                c->real[blocks][k - WHOLE].finger = (double_finger){100000, 100000, 0};
+            for (int phase = 0; phase < CYCLE; phase++)
+                c->best[blocks][k][phase] = 1e18;
         }
-    for (int k = 1; k < 2 * KINDS; k++)
-        if (memcmp(&voices[0], &voices[k], sizeof voices[0])) {
-            printf("the voices differ\n");
-            exit(1);
-        }
-    printf("| %u | %s | %ld %% |", segments, contact ? "contact" : "free", 100 * voices[0].pressed / ((WARM_UP + STRETCHES) * (long)n));
-    for (int k = 0; k < 2 * KINDS; k += KINDS)
-        printf(" %.0f | %.0f | %.0f | %.2f | %.2f |", best[k], best[k + 1], best[k + 2], best[k] / best[k + 1], best[k] / best[k + 2]);
+}
+
+/* Plays the scenes in turn, a cycle of each, so that a disturbance meets all of them. */
+static void play(scene *scenes)
+{
+    for (int cycle = -WARM_UP; cycle < CYCLES; cycle++)
+        for (int i = 0; i < 2 * SIZES; i++)
+            for (int phase = 0; phase < CYCLE; phase++)
+                round_of(&scenes[i], phase, cycle >= 0);
+    for (int i = 0; i < SIZES; i++)
+        if (scenes[i].apart > TOLERANCE * scenes[i].loudest)
+            fail("double precision is too far from the product");
+}
+
+/* A row: the mean over a cycle of each stretch's best time, and the product's ratios to the others. */
+static void row(const scene *c, int blocks)
+{
+    double mean[KINDS] = {0};
+    for (int k = 0; k < KINDS; k++)
+        for (int phase = 0; phase < CYCLE; phase++)
+            mean[k] += c->best[blocks][k][phase] / CYCLE;
+    printf("| %u | %s | %.0f %% |", c->setup.segments, c->in_contact ? "contact" : "free", 100.0 * c->pressed / c->looked_at);
+    for (int k = 0; k < KINDS; k++)
+        printf(" %.0f |", mean[k]);
+    for (int k = 1; k < KINDS; k++)
+        printf(" %.2f |", mean[0] / mean[k]);
     printf("\n");
+}
+
+static void table(const scene *scenes, int blocks)
+{
+    printf("%s\n\n| N | scene | pressed | product, ns | C -O2 | C -O3 | double -O2 | double -O3 | ratio to C -O2 | to C -O3 | to double -O2 | to double -O3 |\n"
+           "|---|---|---|---|---|---|---|---|---|---|---|---|\n", blocks ? "A step in a block of 64:" : "A step by itself:");
+    for (int i = 0; i < 2 * SIZES; i++)
+        row(&scenes[i], blocks);
+    printf("\n");
+}
+
+/* How near double precision comes: the largest distances over all scenes. */
+static void nearness(const scene *scenes)
+{
+    double apart = 0, shares = 0;
+    for (int i = 0; i < SIZES; i++) {
+        const scene *contact = &scenes[SIZES + i];
+        apart = fmax(apart, scenes[i].apart / scenes[i].loudest);
+        shares = fmax(shares, fabs((double)(contact->pressed - contact->double_pressed) / contact->looked_at));
+    }
+    printf("Double precision beside the product: samples of a free string at most %.2f %% of the loudest apart; in contact, the shares of points pressed at "
+           "most %.1f %% of all points apart.\n", 100 * apart, 100 * shares);
 }
 
 int main(void)
 {
-    static const uint32_t sizes[] = {16, 32, 64, 90, 128};
-    printf("| N | scene | points pressed | step, ns | C -O2 | C -O3 | ratio to -O2 | ratio to -O3 | in a block, ns | C -O2 | C -O3 | ratio to -O2 | ratio to -O3 |\n"
-           "|---|---|---|---|---|---|---|---|---|---|---|---|---|\n");
-    for (int contact = 0; contact < 2; contact++)
-        for (int i = 0; i < 5; i++)
-            scene(sizes[i], contact);
+    static const uint32_t sizes[SIZES] = {16, 32, 64, 90, 128};
+    static scene scenes[2 * SIZES]; /* free, then in contact */
+    for (int i = 0; i < 2 * SIZES; i++)
+        lay_out(&scenes[i], sizes[i % SIZES], i / SIZES);
+    play(scenes);
+    table(scenes, 0);
+    table(scenes, 1);
+    nearness(scenes);
     return 0;
 }

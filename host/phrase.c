@@ -1,0 +1,213 @@
+/* Plays a phrase on one string and writes it as sound and as a picture: open, fretted and tapped notes, and a rattle against the frets.
+
+   Each note is a run of its own, from a fresh start with the finger at its place. The hand that silences it is a greater plain loss: another setup over the
+   same state. Demand 3 speaks of runs of one setup; the stored energy does not depend on the plain loss, and goes on from where it was. */
+#include <errno.h>
+#include <math.h>
+#include <stdio.h>
+#include <stdlib.h>
+#include <string.h>
+#include <time.h>
+#include <unistd.h>
+#include "player.h"
+#include "plot.h"
+#include "refusals.h"
+#include "wav.h"
+
+typedef struct {
+    sv_setup setup;
+    int32_t heights[POINTS];
+    uint16_t stiffness[POINTS];
+    int32_t first[POINTS], second[POINTS], contact[POINTS];
+    uint32_t turn;
+    sv_finger finger;
+    const note *playing;
+} voice;
+
+/* What is kept of the phrase. */
+typedef struct {
+    float samples[2 * FRAMES];
+    double energy[BLOCKS];    /* joules, after each block */
+    uint32_t touched[BLOCKS]; /* frets touched in each block: bit i - 1 for fret i */
+    int32_t largest;          /* displacement after a block */
+    double inside;            /* seconds inside sv_play_block */
+} take;
+
+static double now(void)
+{
+    struct timespec t;
+    clock_gettime(CLOCK_MONOTONIC, &t);
+    return (double)t.tv_sec + 1e-9 * (double)t.tv_nsec;
+}
+
+static double start_of_block(size_t block) { return (double)(block * BLOCK) / RATE; }
+
+static void lay_neck(voice *v)
+{
+    v->setup = player_setup(notes, 0);
+    uint32_t refusal = sv_check_setup(v->setup);
+    if (refusal)
+        refused("sv_check_setup", refusal, 0);
+    refusal = instrument_neck(v->setup, v->heights, v->stiffness);
+    if (refusal)
+        refused("sv_lay_neck", refusal, 0);
+}
+
+/* The setup of a block, and a fresh start where a note begins. */
+static void prepare(voice *v, const note *n, double seconds)
+{
+    v->setup = player_setup(n, seconds);
+    if (n == v->playing)
+        return;
+    int32_t height = player_finger_height();
+    sv_started s = sv_fresh_start(v->setup, v->first, POINTS, v->second, POINTS, v->contact, POINTS, height, height);
+    if (s.refusal)
+        refused("sv_fresh_start", s.refusal, seconds);
+    v->turn = s.turn;
+    v->finger = s.finger;
+    v->playing = n;
+}
+
+/* The frets that the string touched in a block: it lies on them now, or their contact variables changed, as they do in contact only. */
+static uint32_t frets_touched(const voice *v, const int32_t contact_before[POINTS], double seconds)
+{
+    uint32_t touched = 0;
+    for (uint32_t i = 0; i < FRETS; i++) {
+        uint32_t place = fret_places[i];
+        sv_reading r = sv_read_place(v->setup, v->heights, POINTS, v->first, POINTS, v->second, POINTS, v->turn, place);
+        if (r.refusal)
+            refused("sv_read_place", r.refusal, seconds);
+        if (r.pressed || v->contact[place - 1] != contact_before[place - 1])
+            touched |= (uint32_t)1 << i;
+    }
+    return touched;
+}
+
+static void keep(const voice *v, take *t, size_t block, const int32_t contact_before[POINTS])
+{
+    int second_is_newer = sv_newest(v->turn) == 1;
+    const int32_t *newer = second_is_newer ? v->second : v->first, *older = second_is_newer ? v->first : v->second;
+    t->energy[block] = joules_of_units(stored_energy(v->setup, newer, older, v->contact, v->finger));
+    t->touched[block] = frets_touched(v, contact_before, start_of_block(block + 1));
+    for (int i = 0; i < POINTS; i++)
+        if (abs(newer[i]) > t->largest)
+            t->largest = abs(newer[i]);
+}
+
+static void play_block(voice *v, take *t, size_t block)
+{
+    double seconds = start_of_block(block);
+    const note *n = note_at(seconds);
+    int32_t forces[2 * BLOCK], contact_before[POINTS];
+    prepare(v, n, seconds);
+    player_forces(n, seconds, v->finger, forces);
+    memcpy(contact_before, v->contact, sizeof contact_before);
+    double start = now();
+    sv_played p = sv_play_block(v->setup, v->heights, POINTS, v->stiffness, POINTS, v->first, POINTS, v->second, POINTS, v->contact, POINTS, v->turn, v->finger,
+                                forces, 2 * BLOCK, t->samples + 2 * BLOCK * block, 2 * BLOCK);
+    t->inside += now() - start;
+    if (p.refusal)
+        refused("sv_play_block", p.refusal, seconds + (double)p.count / RATE);
+    v->turn = p.turn;
+    v->finger = p.finger;
+    keep(v, t, block, contact_before);
+}
+
+/* On a terminal one line that changes, otherwise a line for each note. */
+static void progress(size_t block)
+{
+    static const note *last;
+    const note *n = note_at(start_of_block(block));
+    int terminal = isatty(STDERR_FILENO);
+    if (terminal && block % 100 == 0)
+        fprintf(stderr, "\rplaying %5.2f s of %.2f s: %s, %s  ", start_of_block(block), PHRASE, n->name, n->how);
+    if (terminal && block + 1 == BLOCKS)
+        fprintf(stderr, "\r%60s\r", "");
+    if (!terminal && n != last)
+        fprintf(stderr, "playing %s, %s\n", n->name, n->how);
+    last = n;
+}
+
+/* The frets that the string touched while a note sounded. */
+static void report_note(const take *t, const note *n)
+{
+    uint32_t touched = 0;
+    for (size_t block = 0; block < BLOCKS; block++)
+        if (start_of_block(block) >= n->start && start_of_block(block) < note_end(n))
+            touched |= t->touched[block];
+    printf("%5.2f s  %s %-8s frets touched:", n->start, n->name, n->how);
+    for (uint32_t i = 0; i < FRETS; i++)
+        if (touched >> i & 1)
+            printf(" %u", (unsigned)(i + 1));
+    printf(touched ? "\n" : " none\n");
+}
+
+static void report(const take *t)
+{
+    sv_setup s = player_setup(notes, notes[0].start);
+    double bridge = 0, neck = 0;
+    for (size_t i = 0; i < FRAMES; i++) {
+        bridge = fmax(bridge, fabs(t->samples[2 * i]));
+        neck = fmax(neck, fabs(t->samples[2 * i + 1]));
+    }
+    printf("N = %u, L = %u, M = %u, S = %u, Z = %u; finger of stiffness %u and mass %u\n", (unsigned)s.segments, (unsigned)s.tension, (unsigned)s.stiffness,
+           (unsigned)s.viscous, (unsigned)s.plain, (unsigned)s.finger_stiffness, (unsigned)s.finger_mass);
+    for (int i = 0; i < NOTES; i++)
+        report_note(t, &notes[i]);
+    printf("loudest samples: bridge %.3f, neck %.3f; largest displacement %d of 1048576, %.2f mm\n", bridge, neck, (int)t->largest,
+           1e3 * metres_of_units(t->largest));
+    printf("%.2f s of sound, %.3f s inside sv_play_block: %.1f times real time, %.0f ns a step\n", PHRASE, t->inside, PHRASE / t->inside, 1e9 * t->inside / FRAMES);
+}
+
+static int write_picture(const char *path, const take *t)
+{
+    sv_setup s = player_setup(notes, notes[0].start);
+    plot_mark marks[NOTES];
+    char caption[200];
+    for (int i = 0; i < NOTES; i++)
+        marks[i] = (plot_mark){notes[i].start, notes[i].name, notes[i].how};
+    snprintf(caption, sizeof caption, "N = %u, L = %u, M = %u, S = %u, Z = %u; 44,100 steps a second in blocks of %d; each note is a run from a fresh start",
+             (unsigned)s.segments, (unsigned)s.tension, (unsigned)s.stiffness, (unsigned)s.viscous, (unsigned)s.plain, BLOCK);
+    plot p = {.title = "The string voice: a phrase on an A string", .caption = caption, .seconds = PHRASE, .samples = t->samples, .frames = FRAMES,
+              .millimetres = 1e3 * metres_of_units(1048576), .energy = t->energy, .touched = t->touched, .blocks = BLOCKS, .frets = FRETS,
+              .marks = marks, .marks_length = NOTES};
+    return write_plot(path, &p);
+}
+
+static int write_sound(const char *path, take *t)
+{
+    for (size_t i = 0; i < FRAMES; i++) {
+        double open = player_fader(note_at(start_of_block(i / BLOCK)), (double)i / RATE);
+        t->samples[2 * i] *= (float)open;
+        t->samples[2 * i + 1] *= (float)open;
+    }
+    return write_wav(path, t->samples, FRAMES, RATE);
+}
+
+static void written(const char *path, int failed)
+{
+    if (failed) {
+        fprintf(stderr, "cannot write %s: %s\n", path, strerror(errno));
+        exit(1);
+    }
+    printf("written: %s\n", path);
+}
+
+int main(int count, char **words)
+{
+    static voice v;
+    static take t;
+    if (count != 3) {
+        fprintf(stderr, "usage: phrase SOUND.wav PICTURE.svg\n");
+        return 2;
+    }
+    lay_neck(&v);
+    for (size_t block = 0; block < BLOCKS; block++) {
+        play_block(&v, &t, block);
+        progress(block);
+    }
+    report(&t);
+    written(words[2], write_picture(words[2], &t));
+    written(words[1], write_sound(words[1], &t));
+    return 0;
+}
