@@ -67,20 +67,9 @@ static uint32_t state_refusal(size_t n, const int32_t *heights, const int32_t *f
     return 0;
 }
 
-/* A step whose setup, buffers, neck and state are examined: 12, 13 and 14 are left. */
-static sv_stepped advance(sv_setup s, const int32_t *heights, const uint16_t *stiffness, int32_t *first, int32_t *second, int32_t *contact,
-                          uint32_t turn, sv_finger finger, int32_t pluck, int32_t finger_force)
+/* The string with its ends, its D1, and newer - older, by place. */
+static void differences(size_t n, const int32_t *u, const int32_t *v, int64_t *string, int64_t *d1, int64_t *change)
 {
-    sv_stepped r = {0, turn, finger, {0, 0}};
-    size_t n = s.segments - 1;
-    if (outside(pluck, -FORCE, FORCE) || outside(finger_force, -FORCE, FORCE)) {
-        r.refusal = 12;
-        return r;
-    }
-
-    const int32_t *u = turn ? second : first;
-    int32_t *v = turn ? first : second;
-    int64_t string[130], d1[130], change[130], next[127], next_contact[127];
     string[0] = string[n + 1] = d1[0] = d1[n + 1] = change[0] = change[n + 1] = 0;
     for (size_t i = 1; i <= n; i++) {
         string[i] = u[i - 1];
@@ -88,49 +77,78 @@ static sv_stepped advance(sv_setup s, const int32_t *heights, const uint16_t *st
     }
     for (size_t i = 1; i <= n; i++)
         d1[i] = string[i - 1] - 2 * string[i] + string[i + 1];
-    int64_t height = 0, finger_contact = 0;
-    for (size_t i = 1; i <= n; i++) {
+}
+
+/* What a step leads to, before it is judged. */
+typedef struct {
+    int64_t string[127], contact[127], height, finger_contact;
+} outcome;
+
+/* The two-by-two system at p: answers the point's move. */
+static int64_t move_at_finger(sv_setup s, sv_finger finger, int64_t own, int64_t A, int64_t c, int32_t finger_force, outcome *next)
+{
+    int64_t g = gradient(s.finger_stiffness, own - finger.newer), gg = g * g, mass = s.finger_mass, phi = finger.contact;
+    int64_t a11 = A + gg, a22 = mass + gg, b1 = c - 2 * g * phi;
+    int64_t b2 = 2 * mass * ((int64_t)finger.newer - finger.older) + finger_force + 2 * g * phi;
+    int64_t det = a11 * a22 - gg * gg, finger_move = nearest(a11 * b2 + gg * b1, det), move = nearest(b1 * a22 + gg * b2, det);
+    next->height = finger.older + finger_move;
+    next->finger_contact = phi + g * (move - finger_move);
+    return move;
+}
+
+static void work_out(sv_setup s, const int32_t *heights, const uint16_t *stiffness, const int32_t *u, const int32_t *v, const int32_t *contact,
+                     sv_finger finger, int32_t pluck, int32_t finger_force, outcome *next)
+{
+    int64_t string[130], d1[130], change[130];
+    differences(s.segments - 1, u, v, string, d1, change);
+    for (size_t i = 1; i < s.segments; i++) {
         int64_t G = gradient(stiffness[i - 1], heights[i - 1] - string[i]);
         int64_t A = 4096 + s.plain + G * G;
         int64_t c = 8192 * change[i] + (int64_t)s.tension * d1[i] - (int64_t)s.stiffness * (d1[i - 1] - 2 * d1[i] + d1[i + 1])
             + (int64_t)s.viscous * (change[i - 1] - 2 * change[i] + change[i + 1]) + 2 * G * contact[i - 1];
-        int64_t move;
         if (i == s.pluck_place)
             c += pluck;
-        if (i == s.finger_place) {
-            int64_t g = gradient(s.finger_stiffness, string[i] - finger.newer), gg = g * g, mass = s.finger_mass, phi = finger.contact;
-            int64_t a11 = A + gg, a22 = mass + gg, b1 = c - 2 * g * phi;
-            int64_t b2 = 2 * mass * ((int64_t)finger.newer - finger.older) + finger_force + 2 * g * phi;
-            int64_t det = a11 * a22 - gg * gg, finger_move = nearest(a11 * b2 + gg * b1, det);
-            move = nearest(b1 * a22 + gg * b2, det);
-            height = finger.older + finger_move;
-            finger_contact = phi + g * (move - finger_move);
-        } else
-            move = nearest(c, A);
-        next[i - 1] = v[i - 1] + move;
-        next_contact[i - 1] = contact[i - 1] - G * move;
+        int64_t move = i == s.finger_place ? move_at_finger(s, finger, string[i], A, c, finger_force, next) : nearest(c, A);
+        next->string[i - 1] = v[i - 1] + move;
+        next->contact[i - 1] = contact[i - 1] - G * move;
     }
+}
 
-    int bad = outside(height, -DISPLACEMENT, DISPLACEMENT);
+static int any_outside(int64_t first, size_t n, const int64_t *numbers, int64_t limit)
+{
+    int bad = outside(first, -limit, limit);
     for (size_t i = 0; i < n && !bad; i++)
-        bad = outside(next[i], -DISPLACEMENT, DISPLACEMENT);
-    if (bad) {
+        bad = outside(numbers[i], -limit, limit);
+    return bad;
+}
+
+/* A step whose setup, buffers, neck and state are examined: 12, 13 and 14 are left. */
+static sv_stepped advance(sv_setup s, const int32_t *heights, const uint16_t *stiffness, int32_t *first, int32_t *second, int32_t *contact,
+                          uint32_t turn, sv_finger finger, int32_t pluck, int32_t finger_force)
+{
+    sv_stepped r = {0, turn, finger, {0, 0}};
+    size_t n = s.segments - 1;
+    int32_t *v = turn ? first : second;
+    outcome next;
+    if (outside(pluck, -FORCE, FORCE) || outside(finger_force, -FORCE, FORCE)) {
+        r.refusal = 12;
+        return r;
+    }
+    work_out(s, heights, stiffness, turn ? second : first, v, contact, finger, pluck, finger_force, &next);
+    if (any_outside(next.height, n, next.string, DISPLACEMENT)) {
         r.refusal = 13;
         return r;
     }
-    bad = outside(finger_contact, -CONTACT, CONTACT);
-    for (size_t i = 0; i < n && !bad; i++)
-        bad = outside(next_contact[i], -CONTACT, CONTACT);
-    if (bad) {
+    if (any_outside(next.finger_contact, n, next.contact, CONTACT)) {
         r.refusal = 14;
         return r;
     }
     for (size_t i = 0; i < n; i++) {
-        v[i] = (int32_t)next[i];
-        contact[i] = (int32_t)next_contact[i];
+        v[i] = (int32_t)next.string[i];
+        contact[i] = (int32_t)next.contact[i];
     }
     r.turn = turn ? 0 : 1;
-    r.finger = (sv_finger){(int32_t)height, finger.newer, (int32_t)finger_contact};
+    r.finger = (sv_finger){(int32_t)next.height, finger.newer, (int32_t)next.finger_contact};
     r.frame = (sv_frame){(float)v[s.bridge_place - 1] / 1048576.0f, (float)v[s.neck_place - 1] / 1048576.0f};
     return r;
 }

@@ -4,7 +4,7 @@ ghost use Rattle.model.specs.Neck.{lay};
 ghost use Rattle.capi_types.specs.Rows.{setupOf};
 ghost use Rattle.capi.specs.Calls.{neckCall};
 use capi_types::SetupRow;
-use capi_types::neck_refusal;
+use capi_types::neck_number;
 use capi_types::setup_of;
 use voice_neck::lay_neck;
 
@@ -28,7 +28,7 @@ pub extern "C" fn sv_lay_neck(
       fretStiffness = «fret_stiffness»;
     }) (now (heights .entry)) (now (stiffness .entry))) ⌝ }
 {
-    neck_refusal(lay_neck(
+    neck_number(lay_neck(
         setup_of(setup),
         board,
         board_stiffness,

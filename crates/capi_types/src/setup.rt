@@ -1,4 +1,4 @@
-// The setup for C, its eleven numbers in one row; and the refusal of a setup and of a neck, which for C is the whole answer.
+// The setup for C, its eleven numbers in one row; and the numbers of the answers on a setup and on a neck, which for C are the whole answers.
 ghost use mathlib.Core.Path.{_≡_};
 ghost use Rattle.model.specs.Answers.{setupResult, neckAnswer};
 ghost use Rattle.capi_types.specs.Rows.{setupOf, number};
@@ -44,8 +44,8 @@ pub fn setup_of(row: SetupRow) -> Setup
     }
 }
 
-// The refusal of a setup, 0 where it is accepted.
-pub fn setup_refusal(answer: SetupAnswer) -> u32
+// The number of an answer on a setup: the refusal, 0 where it is accepted.
+pub fn setup_number(answer: SetupAnswer) -> u32
     ensures { λ r. ⌜ r ≡ number (setupResult answer) ⌝ }
 {
     match answer {
@@ -54,8 +54,8 @@ pub fn setup_refusal(answer: SetupAnswer) -> u32
     }
 }
 
-// The refusal of a neck, 0 where it is laid.
-pub fn neck_refusal(answer: NeckAnswer) -> u32
+// The number of an answer on a neck: the refusal, 0 where it is laid.
+pub fn neck_number(answer: NeckAnswer) -> u32
     ensures { λ r. ⌜ r ≡ number (neckAnswer answer) ⌝ }
 {
     match answer {

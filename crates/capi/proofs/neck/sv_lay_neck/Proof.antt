@@ -13,11 +13,11 @@ use Rattle.capi.proofs.neck.sv_lay_neck.Tie as tie
 use Rattle.capi.proofs.neck.sv_lay_neck.Reads as reads
 use Rattle.capi.proofs.neck.sv_lay_neck.Lts as lts
 use Rattle.capi_types.proofs.setup_of.Reads as setup-of-reads
-use Rattle.capi_types.proofs.neck_refusal.Reads as neck-refusal-reads
+use Rattle.capi_types.proofs.neck_number.Reads as neck-number-reads
 use Rattle.voice_neck.proofs.lay_neck.Reads as lay-neck-reads
 
 abbrev Learnt : lts.Claims
-Learnt = (setup-of-reads.Asked, setup-of-reads.Learnt, lay-neck-reads.Asked, lay-neck-reads.Learnt, neck-refusal-reads.Asked, neck-refusal-reads.Learnt)
+Learnt = (setup-of-reads.Asked, setup-of-reads.Learnt, lay-neck-reads.Asked, lay-neck-reads.Learnt, neck-number-reads.Asked, neck-number-reads.Learnt)
 
 module _ (c : lts.After-lay-neck Learnt reads.Pre reads.Post) where
   abbrev made-from : lts.After-setup-of Learnt reads.Pre reads.Post
@@ -38,7 +38,7 @@ module _ (c : lts.After-lay-neck Learnt reads.Pre reads.Post) where
   laid = c .lay-neck .ensures ∙ ap₂ (λ s tip. lay s (planWith tip) (k .args .heights .now) (k .args .stiffness .now)) (made-from .setup-of .ensures) (toZ-ofZ (k .fits .tip))
 
 returns : tie.Need-returns
-returns c = let d = c .before .before .before .before in ap (called d) (c .neck-refusal .ensures) ∙ ap neckCall (laid d)
+returns c = let d = c .before .before .before .before in ap (called d) (c .neck-number .ensures) ∙ ap neckCall (laid d)
 
 pub sv-lay-neck-spec : {M : Type 1} → statement M
 sv-lay-neck-spec = tie.close (tie.spec (λ c κs. tt) (λ c κs. tt) (λ c κs. tt) (λ c. search needs) (λ c. search needs) returns)

@@ -8,7 +8,7 @@ use Rattle.capi.proofs.setup.sv_check_setup.Tie as tie
 returns : tie.Need-returns
 returns c =
     let examined = c .before in
-    c .setup-refusal .ensures ∙ ap number (examined .check-setup .ensures ∙ ap Setups.setup (examined .before .setup-of .ensures))
+    c .setup-number .ensures ∙ ap number (examined .check-setup .ensures ∙ ap Setups.setup (examined .before .setup-of .ensures))
 
 pub sv-check-setup-spec : {M : Type 1} → statement M
 sv-check-setup-spec = tie.close (tie.spec (λ c κs. tt) (λ c κs. tt) (λ c κs. tt) returns)
