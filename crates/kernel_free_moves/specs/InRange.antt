@@ -11,7 +11,7 @@ use lib.Seq.{getD-take}
 use mir.Syntax.{w64}
 use mir.Val.{toZ, ofZ}
 use mir.Facts.{toZ-ofZ}
-use Rattle.integers.specs.Size.{_within_, fits}
+use Rattle.integers.specs.Size.{_within_, wide, fits}
 use Rattle.model.specs.Ranges.{inside, displacementOk, contactOk, forceOk}
 use Rattle.model.specs.Setup.{e, points}
 use Rattle.model.specs.Differences.{at}
@@ -31,8 +31,8 @@ module _ {s : Setup} {u v ψ : List ℤ} {f : ℤ} (h : MoveRanges s u v ψ f) w
 
   pub side-within : {G : ℤ} → G within 255 → (i : ℕ) → sideAt s u v ψ f G i within 2 ^ 37
   unfolding displacementOk contactOk forceOk
-  side-within g i = side-size facts g (h .strings .newer-length ∙ sym (h .strings .older-length)) (bounded 1048576 u (h .strings .newer)) (bounded 1048576 v (h .strings .older))
-      (bounded 67108864 ψ (h .contact) i) (only (eqb i (e s)) (inside-within 1073741824 f (h .force))) i
+  side-within g i = wide (side-size facts g (h .strings .newer-length ∙ sym (h .strings .older-length)) (bounded 1048576 u (h .strings .newer)) (bounded 1048576 v (h .strings .older))
+      (bounded 67108864 ψ (h .contact) i) (only (eqb i (e s)) (inside-within 1073741824 f (h .force))) i) tt
 
 -- the gradients are the first n numbers of the array
 module _ (array : List ℤ) (n : ℕ) (b : Bounded (take n array) 255) (k : ℕ) (l : k < n) where

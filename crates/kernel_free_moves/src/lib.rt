@@ -33,7 +33,7 @@ pub fn free_moves(
     contact: &[i32],
     gradients: &[i64; 127],
     pluck: i32,
-    out: &mut [i64; 127],
+    out: &mut [i32; 127],
 )
     requires { ⌜ MoveRanges setup (now newer) (now older) (now contact) pluck
         × (now weights ≡ placed (Weights.weighted setup (now newer) (now older)))

@@ -26,7 +26,7 @@ pub fn moves(
     gradient: i64,
     pluck: i32,
     force: i32,
-    out: &mut [i64; 127],
+    out: &mut [i32; 127],
 ) -> i64
     requires { ⌜ MoveRanges setup (now newer) (now older) (now contact) pluck
         × (length (now gradients) ≡ 127) × Bounded (take (points setup) (now gradients)) 255 × (length (now out) ≡ 127)
@@ -61,6 +61,6 @@ pub fn moves(
         pluck,
         force,
     );
-    out[place - 1] = pair[0];
+    out[place - 1] = pair[0] as i32;
     pair[1]
 }

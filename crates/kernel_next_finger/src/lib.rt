@@ -5,6 +5,7 @@ ghost use Prim.Native.Nat.{_^_};
 ghost use lib.Dec.{T};
 ghost use lib.IntN.{_+ℤ_, _-ℤ_, _*ℤ_};
 ghost use Rattle.integers.specs.Size.{_within_};
+ghost use Rattle.laws.specs.MoveSizes.{moveSize};
 ghost use Rattle.model.specs.Ranges.{displacementOk, contactOk};
 use model::Finger;
 
@@ -18,7 +19,7 @@ pub fn next_height(older: i32, delta: i64) -> i64
 
 // The finger's new contact variable, φ + g·(δ − δw).
 pub fn next_finger_contact(contact: i32, gradient: i64, delta: i64, finger_delta: i64) -> i64
-    requires { ⌜ (gradient within 255) × (delta within 2 ^ 32) × («finger_delta» within 2 ^ 44) ⌝ }
+    requires { ⌜ (gradient within 255) × (delta within moveSize) × («finger_delta» within 2 ^ 44) ⌝ }
     ensures { λ r. ⌜ r ≡ contact +ℤ gradient *ℤ (delta -ℤ «finger_delta») ⌝ }
 {
     (contact as i64) + gradient * (delta - finger_delta)
@@ -32,7 +33,7 @@ pub struct NewFinger {
 
 // The new finger, from its gradient g, the move δ of the point under it and its own move δw.
 pub fn new_finger(finger: Finger, gradient: i64, delta: i64, finger_delta: i64) -> NewFinger
-    requires { ⌜ (gradient within 255) × (delta within 2 ^ 32) × («finger_delta» within 2 ^ 44) ⌝ }
+    requires { ⌜ (gradient within 255) × (delta within moveSize) × («finger_delta» within 2 ^ 44) ⌝ }
     ensures { λ r. ⌜ r ≡ record { height = finger .older +ℤ «finger_delta»; contact = finger .contact +ℤ gradient *ℤ (delta -ℤ «finger_delta») } ⌝ }
 {
     let height = next_height(finger.older, finger_delta);

@@ -5,7 +5,7 @@ ghost use Prim.Native.Nat.{suc, _^_, _<_};
 ghost use lib.Dec.{T};
 ghost use lib.IntN.{pos, _+ℤ_, _*ℤ_};
 ghost use lib.ListN.{length};
-ghost use lib.Signed.{_<ℤ_};
+ghost use lib.Signed.{_≤ℤ_};
 ghost use Rattle.integers.specs.Size.{_within_};
 ghost use Rattle.integers.specs.Machine.{Within};
 ghost use Rattle.model.specs.Ranges.{all, contactOk, forceOk};
@@ -75,12 +75,12 @@ pub fn point_equation(
 // 32 bits where both sides fit, and by 64 where not; scaled, the divisor never fits, so that the choice does not go by the data.
 const SCALE: i64 = 1048576;
 
-// The move of a point where no finger stands: c / A, rounded.
-pub fn point_move(equation: Equation) -> i64
-    requires { ⌜ (pos 0 <ℤ equation .factor) × (equation .factor within 73217) × (equation .side within 2 ^ 37) ⌝ }
+// The move of a point where no finger stands: c / A, rounded, which 32 bits hold, since A is at least 4096.
+pub fn point_move(equation: Equation) -> i32
+    requires { ⌜ (pos 4096 ≤ℤ equation .factor) × (equation .factor within 73217) × (equation .side within 2 ^ 37) ⌝ }
     ensures { λ r. ⌜ r ≡ Rounding.nearest (equation .side) (equation .factor) ⌝ }
 {
     let side = equation.side;
     let factor = equation.factor;
-    nearest(SCALE * side, SCALE * factor)
+    nearest(SCALE * side, SCALE * factor) as i32
 }

@@ -27,8 +27,8 @@ pub fn work_out(
     finger: Finger,
     pluck: i32,
     force: i32,
-    string: &mut [i64; 127],
-    contacts: &mut [i64; 127],
+    string: &mut [i32; 127],
+    contacts: &mut [i32; 127],
 ) -> NewFinger
     requires { ⌜ (now roots ≡ rootTable) × Passed (callRules setup
         (record { heights = now heights; stiffness = now stiffness })
@@ -48,7 +48,7 @@ pub fn work_out(
     let mut gradients = [0i64; 127];
     point_gradients(roots, heights, stiffness, newer, &mut gradients);
     let gradient = finger_gradient(roots, setup, newer, finger);
-    let mut deltas = [0i64; 127];
+    let mut deltas = [0i32; 127];
     let finger_delta = moves(
         setup,
         newer,
@@ -64,5 +64,6 @@ pub fn work_out(
     next_string(older, &deltas, string);
     next_contact(contact, &gradients, &deltas, contacts);
     let place = setup.finger.place as usize;
-    new_finger(finger, gradient, deltas[place - 1], finger_delta)
+    let delta = deltas[place - 1];
+    new_finger(finger, gradient, delta as i64, finger_delta)
 }

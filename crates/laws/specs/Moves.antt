@@ -6,7 +6,7 @@ use mathlib.Core.List.{[], _∷_}
 use Prim.Native.Nat.{ℕ, suc, _≤_, _<_, zero-le, suc-le-suc}
 use lib.Dec.{eqb, eqb-refl}
 use lib.IntN.{ℤ, pos}
-use lib.Signed.{_<ℤ_}
+use lib.Signed.{_≤ℤ_, _<ℤ_}
 use lib.ListN.{length}
 use lib.Seq.{ext-getD}
 use mir.Facts.{eqb-yes, eqb-no, no-eqb}
@@ -34,8 +34,14 @@ pub record NearestMoves (s : Setup) (x : State) (G : PointsAndFinger) (F : Force
   pub away : (i : ℕ) → 1 ≤ i → i ≤ points s → i ≢ p s → IsNearest (c s x G F i) (A s G i) (at (δ .points) i)
   pub finger : IsRounded (system s x G F) (at (δ .points) (p s)) (δ .finger)
 
+pub factor-low : (s : Setup) (G : ℤ) → pos 4096 ≤ℤ factor s G
+factor-low s G = deduce 2 (λ Z G. times 1 (# 0 ≼ Z) ∷ square 1 G ∷ [] ⊢ # 4096 ≼ # 4096 ⊕ Z ⊕ G ⊗ G) tt (pos (Z s)) G (nonneg (Z s))
+
+pub positive : {A : ℤ} → pos 4096 ≤ℤ A → pos 0 <ℤ A
+positive {A} = deduce 1 (λ A. times 1 (# 4096 ≼ A) ∷ [] ⊢ # 0 ≺ A) tt A
+
 pub factor-positive : (s : Setup) (G : ℤ) → pos 0 <ℤ factor s G
-factor-positive s G = deduce 2 (λ Z G. times 1 (# 0 ≼ Z) ∷ square 1 G ∷ [] ⊢ # 0 ≺ # 4096 ⊕ Z ⊕ G ⊗ G) tt (pos (Z s)) G (nonneg (Z s))
+factor-positive s G = positive (factor-low s G)
 
 pub A-positive : (s : Setup) (G : PointsAndFinger) (i : ℕ) → pos 0 <ℤ A s G i
 unfolding A

@@ -3,6 +3,7 @@ use mathlib.Core.Path.{_≡_, refl, sym, _∙_}
 use mathlib.Core.Bool.{Bool, true, false, cond}
 use mathlib.Core.List.{List, [], _∷_, zipWith}
 use Prim.Native.Nat.{ℕ, zero, suc, _+_, _*_, _^_, zero-le}
+use native.Mathlib.Omega.{arith}
 use lib.Dec.{T, eqb, ltb, ltb→lt, nltb→le}
 use lib.IntN.{ℤ, pos, negℤ, _-ℤ_}
 use lib.Signed.{_≤ℤ_, _<ℤ_, leZ, leZ-yes}
@@ -15,7 +16,7 @@ use Rattle.integers.specs.Solve.{_⊖_, ⊝_, #_}
 use Rattle.integers.specs.Sum.{bend}
 use Rattle.integers.specs.Size.{_within_, _⟨+⟩_, _⟨-⟩_, _⟨*⟩_, num, natural, weaken, wide, size}
 use Rattle.model.specs.Ranges.{all, inside, between, displacementOk, contactOk, forceOk, heightOk}
-use Rattle.model.specs.Setup.{K, p, e, points, lengthOk, setupRules}
+use Rattle.model.specs.Setup.{K, m, p, e, points, lengthOk, setupRules}
 use Rattle.model.specs.Differences.{at, minus, D1}
 use Rattle.model.specs.Gradient.{gradient}
 use Rattle.model.specs.State.{State, Neck, Forces, PointsAndFinger}
@@ -58,12 +59,16 @@ pub only : (b : Bool) {y : ℤ} {n : ℕ} → y within n → cond b y (pos 0) wi
 only true h = h
 only false h = weaken (num 0) zero-le
 
+-- |c| ≤ 2^36 + 2^35 + 2^30: 2^34 each for 8192·(u − v) and the terms of L, M and S, below 2^35 for 2·G·ψ, and the pluck force
+abbrev pub sideSize : ℕ
+sideSize = 3 * 2 ^ 35 + 2 ^ 30
+
 -- A and c of a point, from its gradient, contact variable and pluck force, and both strings
 module _ {s : Setup} (ok : SetupFacts s) {G : ℤ} (g : G within 255) where
   pub factor-size : factor s G within 73217
   factor-size = num 4096 ⟨+⟩ natural (ok .plain) ⟨+⟩ g ⟨*⟩ g
 
-  pub side-size : {u v : List ℤ} → length u ≡ length v → Bounded u 1048576 → Bounded v 1048576 → {ψ f : ℤ} → ψ within 67108864 → f within 1073741824 → (i : ℕ) → rightSide s u v G ψ f i within 2 ^ 37
+  pub side-size : {u v : List ℤ} → length u ≡ length v → Bounded u 1048576 → Bounded v 1048576 → {ψ f : ℤ} → ψ within 67108864 → f within 1073741824 → (i : ℕ) → rightSide s u v G ψ f i within sideSize
   side-size {u} {v} e hu hv c f i =
       wide (num 8192 ⟨*⟩ a i ⟨+⟩ natural (ok .tension) ⟨*⟩ D1-bounded u hu i ⟨-⟩ natural (ok .stiffness) ⟨*⟩ D1-bounded (D1 u) (D1-bounded u hu) i
       ⟨+⟩ natural (ok .viscous) ⟨*⟩ D1-bounded (minus u v) a i ⟨+⟩ num 2 ⟨*⟩ g ⟨*⟩ c ⟨+⟩ f) tt
@@ -76,17 +81,18 @@ module _ {s : Setup} {x : State} {G : PointsAndFinger} {F : Forces} (b : StepRan
   unfolding A
   A-size i = factor-size (b .setup) (b .gradients i)
 
-  pub c-size : (i : ℕ) → c s x G F i within 2 ^ 37
+  pub c-size : (i : ℕ) → c s x G F i within sideSize
   unfolding c
   c-size i = side-size (b .setup) (b .gradients i) (b .lengths) (b .newer) (b .older) (b .contact i) (only (eqb i (e s)) (b .forces .0)) i
 
-  pub b₁-size : system s x G F .b₁ within 2 ^ 38
+  pub b₁-size : system s x G F .b₁ within (2 ^ 37 + 2 ^ 30)
   unfolding system
   b₁-size = wide (c-size (p s) ⟨-⟩ num 2 ⟨*⟩ b .gradient ⟨*⟩ b .finger) tt
 
-  pub b₂-size : system s x G F .b₂ within 2 ^ 43
+  -- |b₂| ≤ 2^22·m + 2^35 + 2^30, by its first term and the two others
+  pub b₂-size : system s x G F .b₂ within (m s * 2 ^ 22 + (2 ^ 35 + 2 ^ 30))
   unfolding system
-  b₂-size = wide (num 2 ⟨*⟩ natural (b .setup .mass) ⟨*⟩ (b .heights .0 ⟨-⟩ b .heights .1) ⟨+⟩ b .forces .1 ⟨+⟩ num 2 ⟨*⟩ b .gradient ⟨*⟩ b .finger) tt
+  b₂-size = weaken (num 2 ⟨*⟩ num (m s) ⟨*⟩ (b .heights .0 ⟨-⟩ b .heights .1) ⟨+⟩ b .forces .1 ⟨+⟩ num 2 ⟨*⟩ b .gradient ⟨*⟩ b .finger) (omega arith)
 
 -- ---- the ranges hold where the refusals 1 to 12 are passed
 

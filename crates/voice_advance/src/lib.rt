@@ -36,8 +36,8 @@ pub fn advance(
     if !forces_ok(pluck, force) {
         return StepAnswer::Refused(12);
     }
-    let mut string = [0i64; 127];
-    let mut contacts = [0i64; 127];
+    let mut string = [0i32; 127];
+    let mut contacts = [0i32; 127];
     let next = work_out(
         setup,
         roots,

@@ -20,8 +20,8 @@ use voice_rows::new_string_ok;
 pub fn outcome(
     setup: Setup,
     next: NewFinger,
-    string: &[i64; 127],
-    contacts: &[i64; 127],
+    string: &[i32; 127],
+    contacts: &[i32; 127],
     older: &mut [i32],
     contact: &mut [i32],
     turn: u32,

@@ -6,9 +6,7 @@ ghost use lib.ListN.{length, take};
 ghost use Rattle.model.specs.Ranges.{all, displacementOk, contactOk, forceOk};
 ghost use Rattle.model.specs.Step.{stateOk};
 use kernel_new_ranges::new_contact_ok;
-use kernel_new_ranges::new_contacts_ok;
 use kernel_new_ranges::new_displacement_ok;
-use kernel_new_ranges::new_displacements_ok;
 use kernel_ranges::contact_ok;
 use kernel_ranges::contacts_ok;
 use kernel_ranges::displacement_ok;
@@ -39,23 +37,23 @@ pub fn forces_ok(pluck: i32, force: i32) -> bool
 }
 
 // 13: the finger's new height, and the new string, which is the first `points` of the array.
-pub fn new_string_ok(height: i64, string: &[i64; 127], points: usize) -> bool
+pub fn new_string_ok(height: i64, string: &[i32; 127], points: usize) -> bool
     requires { ⌜ (points ≤ 127) × (length (now string) ≡ 127) ⌝ }
     ensures { λ r. ⌜ r ≡ all displacementOk (height ∷ take points (now (string .entry))) ⌝ }
 {
     let height_ok = new_displacement_ok(height);
     let numbers = &string[..];
-    let string_ok = new_displacements_ok(&numbers[..points]);
+    let string_ok = displacements_ok(&numbers[..points]);
     height_ok & string_ok
 }
 
 // 14: the finger's new contact variable, and those of the points, which are the first `points` of the array.
-pub fn new_contact_variables_ok(finger: i64, contact: &[i64; 127], points: usize) -> bool
+pub fn new_contact_variables_ok(finger: i64, contact: &[i32; 127], points: usize) -> bool
     requires { ⌜ (points ≤ 127) × (length (now contact) ≡ 127) ⌝ }
     ensures { λ r. ⌜ r ≡ all contactOk (finger ∷ take points (now (contact .entry))) ⌝ }
 {
     let finger_ok = new_contact_ok(finger);
     let variables = &contact[..];
-    let points_ok = new_contacts_ok(&variables[..points]);
+    let points_ok = contacts_ok(&variables[..points]);
     finger_ok & points_ok
 }

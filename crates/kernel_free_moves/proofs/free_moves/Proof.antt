@@ -17,7 +17,7 @@ use Rattle.model.specs.Differences.{at}
 use Rattle.model.specs.Rounding.{nearest}
 use Rattle.model.specs.Step.{factor}
 use Rattle.model.specs.declared.Setup.{Setup}
-use Rattle.laws.specs.Moves.{factor-positive}
+use Rattle.laws.specs.Moves.{factor-low}
 use Rattle.laws.specs.Sizes.{factor-size}
 use Rattle.kernel_free_moves.specs.MoveRanges.{sideAt, freeMoves}
 use Rattle.kernel_free_moves.specs.InRange.{facts, most-points, side-within, gradient-read, equationAt, equation-is, force-ok}
@@ -92,7 +92,7 @@ point-move-requires : tie.Need-point-move-requires Inv-loop μ-loop
 point-move-requires c κs =
     let k = a (c .before) in
     let g = k .pre .3 (suc (i (turn (c .before)))) in
-    rw (equation c) (factor-positive (k .args .setup) (own c), factor-size (facts (k .pre .0)) g, side-within (k .pre .0) g (suc (i (turn (c .before)))))
+    rw (equation c) (factor-low (k .args .setup) (own c), factor-size (facts (k .pre .0)) g, side-within (k .pre .0) g (suc (i (turn (c .before)))))
 
 loop-again : tie.Need-loop-again Inv-loop μ-loop
 loop-again c =

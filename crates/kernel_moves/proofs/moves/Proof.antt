@@ -1,5 +1,5 @@
 -- `moves` meets its contract: the free moves, with the finger's solution put in at p.
-use mathlib.Core.Path.{_≡_, _∙_, ap, ap₂}
+use mathlib.Core.Path.{_≡_, sym, _∙_, ap, ap₂}
 use mathlib.Core.Bool.{cond}
 use mathlib.Core.List.{List}
 use Prim.Native.Nat.{ℕ, suc, _-_, _<_}
@@ -9,9 +9,12 @@ use lib.Dec.{eqb}
 use lib.IntN.{ℤ, pos}
 use lib.ListN.{getD, set, take, length-set}
 use mir.Syntax.{w32, w64}
-use mir.Val.{toZ, ofZ}
+use mir.Val.{SFits, toZ, ofZ}
 use mir.Facts.{toZ-ofZ}
+use Rattle.integers.specs.Bits.{narrow-fits, narrow-is}
+use Rattle.integers.specs.Size.{fits}
 use Rattle.integers.specs.Filled.{tabulate, tabulate-set}
+use Rattle.model.specs.Ranges.{displacementOk, contactOk, forceOk}
 use Rattle.model.specs.Setup.{p, points}
 use Rattle.model.specs.Differences.{at}
 use Rattle.model.specs.Rounding.{nearest}
@@ -20,6 +23,8 @@ use Rattle.model.specs.System.{rounded₁, rounded₂}
 use Rattle.model.specs.Step as Steps
 use Rattle.model.specs.Step.{A, c, system, factor, fingerSystem}
 use Rattle.model.specs.declared.Setup.{Setup}
+use Rattle.laws.specs.MoveSizes.{at-finger-small}
+use Rattle.laws.specs.Sizes.{StepRanges, bounded, inside-within}
 use Rattle.kernel_system.specs.Systems.{rounded}
 use Rattle.kernel_free_moves.specs.MoveRanges.{sideAt, freeMoves}
 use Rattle.kernel_free_moves.specs.InRange.{facts, most-points, gradient-read}
@@ -59,6 +64,24 @@ module _ (k : lts.Start Learnt reads.Pre reads.Post) where
 
   own-is : toZ w64 (ofZ w64 (getD (k .args .gradients .now) (p s - 1) (pos 0))) ≡ at (G .points) (p s)
   own-is = gradient-read (k .args .gradients .now) (points s) (k .pre .2) (p s - 1) point ∙ ap (at (G .points)) place
+
+  ranges : StepRanges s x G F
+  unfolding displacementOk contactOk forceOk
+  ranges = let h = k .pre .0 in let f = k .pre .4 in record {
+    setup = facts h;
+    newer = bounded 1048576 (x .newer) (h .strings .newer);
+    older = bounded 1048576 (x .older) (h .strings .older);
+    contact = bounded 67108864 (x .contact) (h .contact);
+    heights = (inside-within 1048576 (x .finger .newer) (f .newer), inside-within 1048576 (x .finger .older) (f .older));
+    finger = inside-within 67108864 (x .finger .contact) (f .contact);
+    gradients = k .pre .2;
+    gradient = k .pre .5;
+    forces = (inside-within 1073741824 (F .pluck) (h .force), inside-within 1073741824 (F .finger) (k .pre .6));
+    lengths = h .strings .newer-length ∙ sym (h .strings .older-length);
+  }
+
+  move-fits : SFits w32 (rounded₁ (system s x G F))
+  move-fits = fits (at-finger-small ranges .move) tt
 
 abbrev called : lts.After-moves-at-finger Learnt reads.Pre reads.Post → lts.Start Learnt reads.Pre reads.Post
 called d = d .before .before .before .before .before .before .before .before
@@ -111,14 +134,14 @@ module _ (e : lts.After-result Learnt reads.Pre reads.Post) where
   unfolding freeMoves A c
   free = d .before .before .before .before .free-moves .ensures .1 ∙ ap (λ f. freeMoves (s k) (x k .newer) (x k .older) (x k .contact) f (G k .points)) (toZ-ofZ (k .fits .pluck))
 
-  at-finger : toZ w64 (ofZ w64 (getD (d .moves-at-finger .result) 0 (pos 0))) ≡ rounded₁ (system (s k) (x k) (G k) (F k))
-  at-finger = toZ-ofZ (sfits-of (e .before .out .given)) ∙ ap (λ l. getD l 0 (pos 0)) (solved d)
+  at-finger : toZ w32 (ofZ w32 (toZ w64 (ofZ w64 (getD (d .moves-at-finger .result) 0 (pos 0))))) ≡ rounded₁ (system (s k) (x k) (G k) (F k))
+  at-finger = ap (λ l. toZ w32 (ofZ w32 (toZ w64 (ofZ w64 (getD l 0 (pos 0)))))) (solved d) ∙ narrow-is w64 tt (move-fits k)
 
   finger-move : toZ w64 (ofZ w64 (getD (d .moves-at-finger .result) 1 (pos 0))) ≡ rounded₂ (system (s k) (x k) (G k) (F k))
   finger-move = toZ-ofZ (sfits-of (e .result .given)) ∙ ap (λ l. getD l 1 (pos 0)) (solved d)
 
-  point-moves : take n (set array (p (s k) - 1) (toZ w64 (ofZ w64 (getD (d .moves-at-finger .result) 0 (pos 0))))) ≡ tabulate n (λ j. cond (eqb (suc j) (p (s k))) (rounded₁ (system (s k) (x k) (G k) (F k))) (move (suc j)))
-  point-moves = tabulate-set (pos 0) n (λ j. move (suc j)) (p (s k) - 1) array (toZ w64 (ofZ w64 (getD (d .moves-at-finger .result) 0 (pos 0)))) (point k) free
+  point-moves : take n (set array (p (s k) - 1) (toZ w32 (ofZ w32 (toZ w64 (ofZ w64 (getD (d .moves-at-finger .result) 0 (pos 0))))))) ≡ tabulate n (λ j. cond (eqb (suc j) (p (s k))) (rounded₁ (system (s k) (x k) (G k) (F k))) (move (suc j)))
+  point-moves = tabulate-set (pos 0) n (λ j. move (suc j)) (p (s k) - 1) array (toZ w32 (ofZ w32 (toZ w64 (ofZ w64 (getD (d .moves-at-finger .result) 0 (pos 0)))))) (point k) free
       ∙ ap₂ (λ (i : ℕ) y. tabulate n (λ j. cond (eqb (suc j) i) y (move (suc j)))) (place k) at-finger
 
 returns : tie.Need-returns
@@ -140,6 +163,7 @@ moves-spec =
     (λ d. in-array (d .before .before .before .before .before))
     moves-at-finger-requires
     (λ c. search needs)
+    (λ d. rw (ap (λ l. getD l 0 (pos 0)) (solved (d .before))) (narrow-fits w64 tt (move-fits (called (d .before)))))
     (λ d. facts (called (d .before) .pre .0) .first)
     (λ d. omega (arith, in-array (called (d .before))))
     (λ d. in-array (called (d .before)))

@@ -1,14 +1,16 @@
 -- `next_contact` meets its contract. The loop's invariant: the contact variables of the points below index i are new.
 use mathlib.Core.Path.{_≡_, refl, sym, _∙_, ap, ap₂}
 use mathlib.Core.List.{List, [], _∷_}
-use Prim.Native.Nat.{ℕ, suc, _-_, _^_, _<_, pred}
+use Prim.Native.Nat.{ℕ, suc, _-_, _*_, _^_, _<_, pred}
 use native.Mathlib.Omega.{arith}
 use borrow.Author.Needs.{sfits-of}
 use lib.IntN.{ℤ, pos, _-ℤ_, _*ℤ_}
 use lib.ListN.{length, getD, take}
 use mir.Syntax.{w32, w64}
-use mir.Val.{SFits}
-use Rattle.integers.specs.Machine.{Code, var, _⊟_, _⊠_, cast, Env, ∅, _▹_, _▸_, result, answer}
+use mir.Val.{SFits, toZ, ofZ}
+use mir.Facts.{toZ-ofZ}
+use Rattle.integers.specs.Size.{_⟨-⟩_, wide, fits}
+use Rattle.integers.specs.Machine.{Code, var, _⊟_, _⊠_, cast, Env, ∅, _▹_, _▸_, held, result, answer}
 use Rattle.integers.specs.Filled.{Filled, filled-none, filled-more, filled-first}
 use Rattle.model.specs.Differences.{at, minus, times}
 use Rattle.laws.specs.Strings.{_spans_, at-minus, at-times, spans-minus, spans-times, by-places}
@@ -28,7 +30,7 @@ abbrev μ-loop : tie.MeasureT-loop
 μ-loop contact gradients moves out₀ i₀ i-end out i = length contact - i
 
 abbrev body : Code
-body = cast w32 (var 0) ⊟ var 1 ⊠ var 2
+body = cast w32 (var 0) ⊟ var 1 ⊠ cast w32 (var 2)
 
 -- ψ, G and δ
 module _ (c : lts.Start reads.Pre reads.Post Inv-loop μ-loop) where
@@ -73,16 +75,19 @@ module _ (c : lts.After-delta reads.Pre reads.Post Inv-loop μ-loop) where
   abbrev i : ℕ
   i = turn .before .loop .i
 
-  ρ : Env (getD (contact start) i (pos 0) ∷ getD (gradients start) i (pos 0) ∷ getD (moves start) i (pos 0) ∷ []) (2 ^ 31 ∷ 255 ∷ 2 ^ 32 ∷ []) (pred (2 ^ 31) ∷ 255 ∷ 2 ^ 32 ∷ [])
+  ρ : Env (getD (contact start) i (pos 0) ∷ getD (gradients start) i (pos 0) ∷ getD (moves start) i (pos 0) ∷ []) (67108864 ∷ 255 ∷ 2 ^ 31 ∷ []) (67108864 ∷ 255 ∷ pred (2 ^ 31) ∷ [])
   ρ =
-      let more = turn .loop-test .taken in
-      let own : SFits w32 (getD (contact start) i (pos 0)) = sfits-of (c .before .before .own .given) in
-      own ▸ front-within (gradients start) (start .pre .4) i more ▹ front-within (moves start) (start .pre .5) i more ▹ ∅
+      let delta : SFits w32 (getD (moves start) i (pos 0)) = sfits-of (c .delta .given) in
+      start .pre .4 (suc i) ▹ front-within (gradients start) (start .pre .5) i (turn .loop-test .taken) ▹ delta ▸ ∅
+
+  number-is : held (getD (contact start) i (pos 0) ∷ getD (gradients start) i (pos 0) ∷ getD (moves start) i (pos 0) ∷ []) w64 body ≡ at (new (contact start) (gradients start) (moves start)) (suc i)
+  number-is = result ρ w64 body tt ∙ sym (new-at start i (turn .loop-test .taken))
+
+  number-fits : SFits w32 (at (new (contact start) (gradients start) (moves start)) (suc i))
+  number-fits = fits {n = 31 * 2 ^ 26} (rw (at-minus (contact-spans start) (products-span start) (suc i)) (wide (start .pre .4 (suc i) ⟨-⟩ start .pre .6 (suc i)) tt)) tt
 
 loop-again : tie.Need-loop-again Inv-loop μ-loop
-loop-again c =
-    filled-more (in-array (turn c)) (turn c .before .loop .inv)
-    (result (ρ c) w64 body tt ∙ sym (new-at (start c) (i c) (turn c .loop-test .taken)))
+loop-again c = filled-more (in-array (turn c)) (turn c .before .loop .inv) (ap (λ z. toZ w32 (ofZ w32 z)) (number-is c) ∙ toZ-ofZ (number-fits c))
 
 returns : tie.Need-returns Inv-loop μ-loop
 returns c =
@@ -103,6 +108,7 @@ next-contact-spec =
     (λ c. in-array (c .before))
     (λ c. omega (arith, in-array (c .before .before)))
     (λ c. in-array (c .before .before)))
+    (λ c. rw (number-is c) (number-fits c))
     (λ c. omega (arith, in-array (turn c)))
     (λ c. in-array (turn c))
     (λ c. omega (arith, in-array (turn c)))

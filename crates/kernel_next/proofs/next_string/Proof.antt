@@ -1,16 +1,15 @@
 -- `next_string` meets its contract. The loop's invariant: the points below index i are moved.
 use mathlib.Core.Path.{_≡_, refl, sym, _∙_, ap}
 use mathlib.Core.List.{List, [], _∷_}
-use Prim.Native.Nat.{ℕ, suc, _-_, _^_, _<_, pred}
+use Prim.Native.Nat.{ℕ, suc, _-_, _<_}
 use native.Mathlib.Omega.{arith}
-use borrow.Author.Needs.{sfits-of}
 use lib.IntN.{ℤ, pos, _+ℤ_}
 use lib.ListN.{length, getD, take}
-use mir.Syntax.{w32, w64}
-use mir.Val.{SFits}
-use Rattle.integers.specs.Machine.{Code, var, _⊞_, cast, Env, ∅, _▹_, _▸_, result, answer}
+use mir.Syntax.{w32}
+use Rattle.integers.specs.Machine.{Code, var, _⊞_, Within, ∅, _▹_, result, answer}
 use Rattle.integers.specs.Filled.{Filled, filled-none, filled-more, filled-first}
 use Rattle.model.specs.Differences.{at, plus}
+use Rattle.laws.specs.MoveSizes.{moveSize}
 use Rattle.laws.specs.Strings.{_spans_, at-plus, spans-plus, by-places}
 use Rattle.kernel_next.proofs.Front.{front-spans, front-at, front-within}
 use Rattle.kernel_next.proofs.next_string.Statement.{statement}
@@ -28,7 +27,7 @@ abbrev μ-loop : tie.MeasureT-loop
 μ-loop older moves out₀ i₀ i-end out i = length older - i
 
 abbrev body : Code
-body = cast w32 (var 0) ⊞ var 1
+body = var 0 ⊞ var 1
 
 -- the strings that are added
 module _ (c : lts.Start reads.Pre reads.Post Inv-loop μ-loop) where
@@ -62,13 +61,13 @@ module _ (c : lts.After-delta reads.Pre reads.Post Inv-loop μ-loop) where
   abbrev i : ℕ
   i = turn .before .loop .i
 
-  ρ : Env (getD (older start) i (pos 0) ∷ getD (moves start) i (pos 0) ∷ []) (2 ^ 31 ∷ 2 ^ 32 ∷ []) (pred (2 ^ 31) ∷ 2 ^ 32 ∷ [])
-  ρ = let own : SFits w32 (getD (older start) i (pos 0)) = sfits-of (c .before .own .given) in own ▸ front-within (moves start) (start .pre .3) i (turn .loop-test .taken) ▹ ∅
+  ρ : Within (getD (older start) i (pos 0) ∷ getD (moves start) i (pos 0) ∷ []) (1048576 ∷ moveSize ∷ [])
+  ρ = start .pre .3 (suc i) ▹ front-within (moves start) (start .pre .4) i (turn .loop-test .taken) ▹ ∅
 
 loop-again : tie.Need-loop-again Inv-loop μ-loop
 loop-again c =
     filled-more (in-array (turn c)) (turn c .before .loop .inv)
-    (result (ρ c) w64 body tt ∙ sym (new-at (start c) (i c) (turn c .loop-test .taken)))
+    (result (ρ c) w32 body tt ∙ sym (new-at (start c) (i c) (turn c .loop-test .taken)))
 
 returns : tie.Need-returns Inv-loop μ-loop
 returns c =
@@ -78,7 +77,7 @@ returns c =
 pub next-string-spec : {M : Type 1} → statement M
 next-string-spec =
     tie.close
-    (answer ρ w64 body tt
+    (answer ρ w32 body tt
     (tie.spec
     Inv-loop
     μ-loop

@@ -3,16 +3,14 @@ use mathlib.Core.Path.{refl, sym, _∙_}
 use mathlib.Core.List.{List}
 use Prim.Native.Nat.{ℕ, suc, _-_, _<_}
 use native.Mathlib.Omega.{arith}
+use borrow.Author.Needs.{sfits-of}
 use lib.IntN.{ℤ, pos}
 use lib.ListN.{length, getD, take}
-use mir.Syntax.{w32, w64}
-use mir.Val.{SFits}
-use Rattle.integers.specs.Bits.{narrow-fits, narrow-is}
-use Rattle.integers.specs.Size.{fits}
+use mir.Facts.{toZ-ofZ}
 use Rattle.integers.specs.Filled.{Filled, filled-none, filled-more, filled-all}
 use Rattle.model.specs.Differences.{at}
 use Rattle.laws.specs.Strings.{by-places}
-use Rattle.kernel_next.proofs.Front.{front-spans, front-at, front-within}
+use Rattle.kernel_next.proofs.Front.{front-spans, front-at}
 use Rattle.kernel_next.proofs.write.Statement.{statement}
 use Rattle.kernel_next.proofs.write.Tie as tie
 use Rattle.kernel_next.proofs.write.Reads as reads
@@ -44,11 +42,8 @@ module _ (c : lts.In-loop reads.Pre reads.Post Inv-loop μ-loop) where
   in-out : i < length (c .before .loop .out)
   in-out = omega (arith, more, c .before .loop .inv .len)
 
-  number-fits : SFits w32 (getD numbers i (pos 0))
-  number-fits = fits (front-within numbers (start .pre .2) i more) tt
-
 loop-again : tie.Need-loop-again Inv-loop μ-loop
-loop-again c = let turn = c .before in filled-more (more turn) (turn .before .loop .inv) (narrow-is w64 tt (number-fits turn) ∙ sym (front-at (numbers turn) (i turn) (more turn)))
+loop-again c = let turn = c .before in filled-more (more turn) (turn .before .loop .inv) (toZ-ofZ (sfits-of (c .out .given)) ∙ sym (front-at (numbers turn) (i turn) (more turn)))
 
 returns : tie.Need-returns Inv-loop μ-loop
 returns c =
@@ -64,7 +59,6 @@ write-spec =
     (λ c. filled-none refl)
     (λ c. omega (arith, in-numbers c))
     in-numbers
-    (λ c. narrow-fits w64 tt (number-fits (c .before)))
     (λ c. omega (arith, in-numbers (c .before)))
     (λ c. in-out (c .before))
     (λ c. omega (arith, in-numbers (c .before)))

@@ -12,7 +12,7 @@ abbrev body : Code
 body = cast w32 (var 0) ⊞ var 1 ⊠ (var 2 ⊟ var 3)
 
 ρ : (c : lts.Start reads.Pre reads.Post)
-    → (let a = c .args in Env (a .contact ∷ a .gradient ∷ a .delta ∷ a .finger-delta ∷ []) (2 ^ 31 ∷ 255 ∷ 2 ^ 32 ∷ 2 ^ 44 ∷ []) (pred (2 ^ 31) ∷ 255 ∷ 2 ^ 32 ∷ 2 ^ 44 ∷ []))
+    → (let a = c .args in Env (a .contact ∷ a .gradient ∷ a .delta ∷ a .finger-delta ∷ []) (2 ^ 31 ∷ 255 ∷ 2 ^ 26 ∷ 2 ^ 44 ∷ []) (pred (2 ^ 31) ∷ 255 ∷ 2 ^ 26 ∷ 2 ^ 44 ∷ []))
 ρ c = c .fits .contact ▸ c .pre .0 ▹ c .pre .1 ▹ c .pre .2 ▹ ∅
 
 returns : tie.Need-returns

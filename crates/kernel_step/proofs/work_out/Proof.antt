@@ -7,8 +7,8 @@ use borrow.Author.Needs.{needs}
 use lib.IntN.{ℤ, pos, _+ℤ_, _-ℤ_, _*ℤ_}
 use lib.ListN.{getD, take}
 use lib.Seq.{getD-take}
-use mir.Syntax.{w64}
-use mir.Val.{toZ, ofZ}
+use mir.Syntax.{w32, w64}
+use mir.Val.{SFits, toZ, ofZ}
 use mir.Facts.{toZ-ofZ}
 use Rattle.model.specs.Setup.{p, points}
 use Rattle.model.specs.Differences.{at, plus, minus, times}
@@ -17,11 +17,12 @@ use Rattle.model.specs.Step as Steps
 use Rattle.model.specs.Step.{gradients, callRules, workedStep, nextState}
 use Rattle.model.specs.declared.Setup.{Setup}
 use Rattle.promises.specs.Promises.{Passed}
+use Rattle.integers.specs.Bits.{wide-fits, wide-is}
 use Rattle.integers.specs.Size.{_within_, fits}
 use Rattle.laws.specs.Accepted.{Examined}
 use Rattle.laws.specs.Sizes.{Bounded, StepRanges}
 use Rattle.laws.specs.Strings.{at-index}
-use Rattle.laws.specs.MoveSizes.{moves-size, rounded₂-size}
+use Rattle.laws.specs.MoveSizes.{moveSize, changeSize, moves-small, changes-small, rounded₂-size}
 use Rattle.kernel_step.proofs.Called as called
 use Rattle.kernel_step.proofs.work_out.Statement.{statement}
 use Rattle.kernel_step.proofs.work_out.Tie as tie
@@ -156,11 +157,20 @@ module _ (c : lts.After-moves Learnt reads.Pre reads.Post) where
   finger-move-size = rounded₂-size sizes
 
   -- of the first n numbers, where n is the length of a lent string
-  moves-within : (n : ℕ) → n ≡ points (s k) → Bounded (take n move-array) (2 ^ 32)
-  moves-within n e = subst (λ l. Bounded l (2 ^ 32)) (sym (ap (λ (n : ℕ). take n move-array) e ∙ point-moves-are)) (moves-size sizes)
+  front-moves : (n : ℕ) → n ≡ points (s k) → take n move-array ≡ δ k .points
+  front-moves n e = ap (λ (n : ℕ). take n move-array) e ∙ point-moves-are
+
+  front-gradients : (n : ℕ) → n ≡ points (s k) → take n (point-array d) ≡ G k .points
+  front-gradients n e = ap (λ (n : ℕ). take n (point-array d)) e ∙ point-gradients-are d
+
+  moves-within : (n : ℕ) → n ≡ points (s k) → Bounded (take n move-array) moveSize
+  moves-within n e = subst (λ l. Bounded l moveSize) (sym (front-moves n e)) (λ i. moves-small sizes i .move)
 
   gradients-within : (n : ℕ) → n ≡ points (s k) → Bounded (take n (point-array d)) 255
-  gradients-within n e = subst (λ l. Bounded l 255) (sym (ap (λ (n : ℕ). take n (point-array d)) e ∙ point-gradients-are d)) (sizes .gradients)
+  gradients-within n e = subst (λ l. Bounded l 255) (sym (front-gradients n e)) (sizes .gradients)
+
+  changes-within : (n : ℕ) → n ≡ points (s k) → Bounded (times (take n (point-array d)) (take n move-array)) changeSize
+  changes-within n e = subst (λ l. Bounded l changeSize) (sym (ap₂ times (front-gradients n e) (front-moves n e))) (changes-small (s k) (neck k) (x k) (F k) (passed k))
 
   lengths : Examined (s k) (neck k) (x k)
   lengths = called.lengths (s k) (neck k) (x k) (F k) (passed k)
@@ -172,13 +182,13 @@ next-string-requires : tie.Need-next-string-requires
 next-string-requires c κs =
     let m = c .before .before in
     let e = lengths m .older .long in
-    (short m _ e, m .moves .ensures .0, k m .pre .2, moves-within m _ e)
+    (short m _ e, m .moves .ensures .0, k m .pre .2, sizes m .older, moves-within m _ e)
 
 next-contact-requires : tie.Need-next-contact-requires
 next-contact-requires c κs =
     let m = c .before .before .before .before .before .before in
     let e = lengths m .contact .long in
-    (short m _ e, d m .before .point-gradients .ensures .0, m .moves .ensures .0, k m .pre .3, gradients-within m _ e, moves-within m _ e)
+    (short m _ e, d m .before .point-gradients .ensures .0, m .moves .ensures .0, k m .pre .3, sizes m .contact, gradients-within m _ e, changes-within m _ e)
 
 -- δ at p, read from the array
 module _ (m : lts.After-moves Learnt reads.Pre reads.Post) where
@@ -191,14 +201,22 @@ module _ (m : lts.After-moves Learnt reads.Pre reads.Post) where
   point : place - 1 < points (s (k m))
   point = let l = lengths m .setup .last in let f = first-place in omega arith
 
-  delta-is : toZ w64 (ofZ w64 (getD (move-array m) (place - 1) (pos 0))) ≡ at (δ (k m) .points) place
-  delta-is = ap (λ z. toZ w64 (ofZ w64 z)) (sym (getD-take (points (s (k m))) (move-array m) (place - 1) (pos 0) point) ∙ ap (λ l. getD l (place - 1) (pos 0)) (point-moves-are m) ∙ sym (at-index (δ (k m) .points) place first-place))
-      ∙ toZ-ofZ (fits (moves-size (sizes m) place) tt)
+  delta-read : getD (move-array m) (place - 1) (pos 0) ≡ at (δ (k m) .points) place
+  delta-read = sym (getD-take (points (s (k m))) (move-array m) (place - 1) (pos 0) point) ∙ ap (λ l. getD l (place - 1) (pos 0)) (point-moves-are m) ∙ sym (at-index (δ (k m) .points) place first-place)
+
+  delta-size : at (δ (k m) .points) place within moveSize
+  delta-size = moves-small (sizes m) place .move
+
+  delta-fits : SFits w32 (getD (move-array m) (place - 1) (pos 0))
+  delta-fits = rw delta-read (fits delta-size tt)
+
+  delta-is : toZ w64 (ofZ w64 (toZ w32 (ofZ w32 (getD (move-array m) (place - 1) (pos 0))))) ≡ at (δ (k m) .points) place
+  delta-is = wide-is w64 tt delta-fits ∙ delta-read
 
 new-finger-requires : tie.Need-new-finger-requires
 new-finger-requires c κs =
     let m = c .before .before .before .before .before .before .before .before .before in
-    (rw (finger-gradient-is (d m)) (sizes m .gradient), rw (delta-is m) (moves-size (sizes m) (place m)), rw (finger-move-is m) (finger-move-size m))
+    (rw (finger-gradient-is (d m)) (sizes m .gradient), rw (delta-is m) (delta-size m), rw (finger-move-is m) (finger-move-size m))
 
 -- the next state, part by part
 module _ (c : lts.After-new-finger Learnt reads.Pre reads.Post) where
@@ -220,13 +238,13 @@ module _ (c : lts.After-new-finger Learnt reads.Pre reads.Post) where
   string-is : take n (strings .next-string .last .1 .1 .0) ≡ plus (x a .older) (δ a .points)
   string-is =
       let e = lengths m .older .long in
-      ap (λ (n : ℕ). take n (strings .next-string .last .1 .1 .0)) (sym e) ∙ strings .next-string .ensures .1 ∙ ap (plus (x a .older)) (ap (λ (n : ℕ). take n (move-array m)) e ∙ point-moves-are m)
+      ap (λ (n : ℕ). take n (strings .next-string .last .1 .1 .0)) (sym e) ∙ strings .next-string .ensures .1 ∙ ap (plus (x a .older)) (front-moves m _ e)
 
   contact-is : take n (contacts .next-contact .last .1 .1 .1 .0) ≡ minus (x a .contact) (times (G a .points) (δ a .points))
   contact-is =
       let e = lengths m .contact .long in
       ap (λ (n : ℕ). take n (contacts .next-contact .last .1 .1 .1 .0)) (sym e) ∙ contacts .next-contact .ensures .1
-      ∙ ap₂ (λ g d. minus (x a .contact) (times g d)) (ap (λ (n : ℕ). take n (point-array (d m))) e ∙ point-gradients-are (d m)) (ap (λ (n : ℕ). take n (move-array m)) e ∙ point-moves-are m)
+      ∙ ap₂ (λ g d. minus (x a .contact) (times g d)) (front-gradients m _ e) (front-moves m _ e)
 
   finger-is : c .new-finger .result ≡ record { height = x a .finger .older +ℤ δ a .finger; contact = x a .finger .contact +ℤ G a .finger *ℤ (at (δ a .points) (p (s a)) -ℤ δ a .finger) }
   finger-is = c .new-finger .ensures ∙ (λ i. record {
@@ -260,5 +278,6 @@ work-out-spec =
     (λ c. first-place (c .before .before .before .before .before .before .before .before))
     (λ c. search needs)
     (λ c. let m = c .before .before .before .before .before .before .before .before in let l = point m in let h = short m _ refl in omega arith)
+    (λ c. wide-fits w64 tt (delta-fits (c .before .before .before .before .before .before .before .before .before)))
     new-finger-requires
     returns)

@@ -8,7 +8,6 @@ use lib.Dec.{T}
 use lib.ListN.{length, drop, take}
 use lib.Seq.{length-take-le}
 use mir.Facts.{toZ-ofZ, and-yes}
-use Rattle.integers.specs.Size.{wide}
 use Rattle.model.specs.Ranges.{all, displacementOk, contactOk}
 use Rattle.model.specs.Refusal.{Rule, firstOf, accepted}
 use Rattle.model.specs.Setup.{points}
@@ -20,7 +19,6 @@ use Rattle.model.specs.declared.StepAnswer.the-variants.{Refused}
 use Rattle.laws.specs.Accepted.{setup-facts}
 use Rattle.laws.specs.Advance.{Advanced, advancedResult}
 use Rattle.laws.specs.Refusals.{Reached, reached-top, row-passed-not, row-holds-not, row-fact, made-by, refused-by}
-use Rattle.laws.specs.Sizes.{Bounded, bounded}
 use Rattle.voice_outcome.specs.Outcome as Outcomes
 use Rattle.voice_outcome.proofs.outcome.Statement.{statement}
 use Rattle.voice_outcome.proofs.outcome.Tie as tie
@@ -135,22 +133,13 @@ module _ (c : lts.Else2 Learnt reads.Pre reads.Post) where
   contact-range : T (contactOk (y k₂ .finger .contact)) × T (all contactOk (y k₂ .contact))
   contact-range = and-yes (contactOk (y k₂ .finger .contact)) (all contactOk (y k₂ .contact)) (row-fact (judged-14 (c .before)) (c .if2 .left))
 
-  string-small : (n : ℕ) → n ≡ points (s k₂) → Bounded (take n (k₂ .args .string .now)) 67108864
-  unfolding displacementOk
-  string-small n e = subst (λ l. Bounded l 67108864) (sym (string-is k₂ n e)) (λ i. wide (bounded 1048576 (y k₂ .newer) (string-range passed-13 .1) i) tt)
-
-  contacts-small : (n : ℕ) → n ≡ points (s k₂) → Bounded (take n (k₂ .args .contacts .now)) 67108864
-  unfolding contactOk
-  contacts-small n e = subst (λ l. Bounded l 67108864) (sym (contacts-are k₂ n e)) (bounded 67108864 (y k₂ .contact) (contact-range .1))
-
 write-requires : tie.Need-write-requires
-write-requires c κs = let k = k₂ (c .before) in (k .pre .1, short k _ (older-length k), string-small (c .before) _ (older-length k))
+write-requires c κs = let k = k₂ (c .before) in (k .pre .1, short k _ (older-length k))
 
 write-requires-2 : tie.Need-write-requires-2
 write-requires-2 c κs =
-    let d = c .before .before .before .before in
-    let k = k₂ d in
-    (k .pre .2, short k _ (contact-length k), contacts-small d _ (contact-length k))
+    let k = k₂ (c .before .before .before .before) in
+    (k .pre .2, short k _ (contact-length k))
 
 -- what was written
 module _ (c : lts.After-write2 Learnt reads.Pre reads.Post) where

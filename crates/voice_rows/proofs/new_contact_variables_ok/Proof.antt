@@ -12,7 +12,7 @@ returns : tie.Need-returns
 returns c =
     let s = c .before .before .before in
     let finger = s .new-contact-ok .ensures ∙ ap contactOk (toZ-ofZ (s .before .fits .finger)) in
-    ap₂ _&&_ finger (c .new-contacts-ok .ensures)
+    ap₂ _&&_ finger (c .contacts-ok .ensures)
 
 pub new-contact-variables-ok-spec : {M : Type 1} → statement M
 new-contact-variables-ok-spec = tie.close (tie.spec (λ c κs. tt) (λ c. sym (length-take-le _ (c .before .before .before .args .contact .now) (omega arith))) (λ c κs. tt) returns)

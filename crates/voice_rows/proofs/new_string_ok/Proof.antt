@@ -12,7 +12,7 @@ returns : tie.Need-returns
 returns c =
     let s = c .before .before .before in
     let height = s .new-displacement-ok .ensures ∙ ap displacementOk (toZ-ofZ (s .before .fits .height)) in
-    ap₂ _&&_ height (c .new-displacements-ok .ensures)
+    ap₂ _&&_ height (c .displacements-ok .ensures)
 
 pub new-string-ok-spec : {M : Type 1} → statement M
 new-string-ok-spec = tie.close (tie.spec (λ c κs. tt) (λ c. sym (length-take-le _ (c .before .before .before .args .string .now) (omega arith))) (λ c κs. tt) returns)
