@@ -1,7 +1,7 @@
 /* The string voice for C: a guitar string seen from the side, its fretboard and frets and one stopping finger, stepped in whole numbers. Document 01 is
    the scope, and the numbers of refusals are its numbers; docs/INTEGRATION.md says what to do about each.
 
-   A voice is a setup, a neck and a state, all kept by the caller; the library keeps nothing between calls, allocates nothing and calls only memset.
+   A voice is a setup, a neck and a state, all kept by the caller; the library keeps nothing between calls, allocates nothing and calls only memset and memcpy.
    Every function may be given any numbers and any lengths, and examines them. What it cannot examine is left to the caller:
    - a pointer points to as many elements as the length beside it says, and is aligned for its type; at length 0 it is not used and may be null;
    - buffers that are not const overlap no other buffer of the call. */

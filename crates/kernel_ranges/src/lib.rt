@@ -1,4 +1,4 @@
-// Range tests of what is given, numbers of 32 bits: whether one, or every number of a lent slice, lies in its range of document 01.
+// Range tests of numbers of 32 bits, given or worked out: whether one, or every number of a lent slice, lies in its range of document 01.
 // A scan reads the whole slice and has no early exit, so that the compiler takes several numbers at once.
 ghost use mathlib.Core.Path.{_≡_};
 ghost use Rattle.model.specs.Ranges.{all, inside, displacementOk, contactOk, forceOk, heightOk};

@@ -1,4 +1,4 @@
--- How large the moves of a step can be, and what it leads to, before 13 and 14 are judged: all below 2 ^ 63.
+-- How large the moves of a step can be, and what it leads to, before 13 and 14 are judged: 32 bits hold the string and its contact variables, 64 the finger.
 use mathlib.Core.Path.{_≡_, refl, sym, _∙_, ap, subst}
 use mathlib.Core.Bool.{Bool, true, false, cond}
 use mathlib.Core.List.{[], _∷_}
@@ -6,7 +6,7 @@ use Prim.Native.Nat.{ℕ, zero, suc, _+_, _*_, _^_, zero-le}
 use native.Mathlib.Nat.{le-trans}
 use native.Mathlib.Omega.{arith}
 use lib.Dec.{T, ltb, leb, eqb, ltb→lt, leb→le, nltb→le}
-use lib.IntN.{ℤ, pos, natAbs, +ℤ-comm, _+ℤ_, _*ℤ_}
+use lib.IntN.{ℤ, pos, _+ℤ_, _*ℤ_}
 use lib.Signed.{_≤ℤ_}
 use lib.ListN.{List·getD-eq-default}
 use mir.Facts.{eqb-yes}

@@ -5,7 +5,7 @@ use Prim.Native.Nat.{ℕ, suc, _-_, _<_}
 use native.Mathlib.Omega.{arith}
 use borrow.Author.Needs.{sfits-of}
 use lib.IntN.{ℤ, pos}
-use lib.ListN.{length, getD, take}
+use lib.ListN.{length, take}
 use mir.Facts.{toZ-ofZ}
 use Rattle.integers.specs.Filled.{Filled, filled-none, filled-more, filled-all}
 use Rattle.model.specs.Differences.{at}
