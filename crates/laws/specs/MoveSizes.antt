@@ -6,8 +6,8 @@ use Prim.Native.Nat.{ℕ, zero, suc, _+_, _*_, _^_, zero-le}
 use native.Mathlib.Nat.{le-trans}
 use native.Mathlib.Omega.{arith}
 use lib.Dec.{T, ltb, leb, eqb, ltb→lt, leb→le, nltb→le}
-use lib.IntN.{ℤ, pos, _+ℤ_, _*ℤ_}
-use lib.Signed.{_≤ℤ_}
+use lib.IntN.{ℤ, pos, negℤ, _+ℤ_, _-ℤ_, _*ℤ_}
+use lib.Signed.{_≤ℤ_, _<ℤ_}
 use lib.ListN.{List·getD-eq-default}
 use mir.Facts.{eqb-yes}
 use Rattle.integers.specs.Filled.{length-tabulate, getD-tabulate}
@@ -19,7 +19,7 @@ use Rattle.model.specs.Setup.{Z, m, p, points}
 use Rattle.model.specs.Differences.{at}
 use Rattle.model.specs.Differences as Strings
 use Rattle.model.specs.Rounding.{nearest}
-use Rattle.model.specs.System.{det₁, det₂, rounded₁, rounded₂}
+use Rattle.model.specs.System.{det, det₁, det₂, rounded₁, rounded₂}
 use Rattle.model.specs.State.{State, Neck, Forces, PointsAndFinger}
 use Rattle.model.specs.Step.{gradients, A, c, system, moves, workedStep, nextState, callRules}
 use Rattle.model.specs.declared.Setup.{Setup}
@@ -56,17 +56,12 @@ unfolding A
 A-both s G i = deduce 5 (λ Z G g y z. times 1 (# 0 ≼ Z) ∷ square 1 (y ⊖ z) ∷ equal (# 1) (y ⊗ y ≐ G ⊗ G) ∷ equal (# 1) (z ⊗ z ≐ g ⊗ g) ∷ [] ⊢ # 2 ⊗ y ⊗ z ≼ # 4096 ⊕ Z ⊕ G ⊗ G ⊕ g ⊗ g) tt
     (pos (Z s)) (at (G .points) i) (G .finger) (gradient G i) (size (G .finger)) (nonneg (Z s)) (size-square (at (G .points) i)) (size-square (G .finger))
 
--- The numerators of the system, weighted by w: of rows r + q, −q and −q, t + q, where |u| ≤ U and |v| ≤ t·X + Y,
+-- A solution of the system, rounded and weighted by w: of rows r + q, −q and −q, t + q and right side u, v, where |u| ≤ U and |v| ≤ t·X + Y, its numerator is
 -- w·|(t + q)·u + q·v| ≤ (t + q)·w·U + t·w·q·X + q·w·Y ≤ (a + b + d) times the determinant, if w·U ≤ a·r, w·q·X ≤ b·(r + q) and w·Y ≤ d·r.
 module _ {r t q w : ℤ} (hr : pos 0 ≤ℤ r) (ht : pos 0 ≤ℤ t) (hq : pos 0 ≤ℤ q) (hw : pos 0 ≤ℤ w) where
-  numerator-≤ : (u v U X Y : ℤ) (a b d : ℕ) → size u ≤ℤ U → size v ≤ℤ (t *ℤ X +ℤ Y) → (w *ℤ U) ≤ℤ (pos a *ℤ r) → (w *ℤ (q *ℤ X)) ≤ℤ (pos b *ℤ (r +ℤ q)) → (w *ℤ Y) ≤ℤ (pos d *ℤ r)
-      → (w *ℤ size ((t +ℤ q) *ℤ u +ℤ q *ℤ v)) ≤ℤ (pos (a + b + d) *ℤ (r *ℤ (t +ℤ q) +ℤ q *ℤ t))
-  numerator-≤ u v U X Y a b d hu hv ha hb hd = ≤-trans (≤-times hw numerator)
-      (deduce 10 (λ r t q w U X Y a b d. times 1 ((t ⊕ q) ⊗ (w ⊗ U) ≼ (t ⊕ q) ⊗ (a ⊗ r)) ∷ times 1 (t ⊗ (w ⊗ (q ⊗ X)) ≼ t ⊗ (b ⊗ (r ⊕ q))) ∷ times 1 (q ⊗ (w ⊗ Y) ≼ q ⊗ (d ⊗ r))
-      ∷ times 1 (# 0 ≼ a ⊗ (q ⊗ t)) ∷ times 1 (# 0 ≼ b ⊗ (r ⊗ q)) ∷ times 1 (# 0 ≼ d ⊗ (t ⊗ (r ⊕ q))) ∷ []
-      ⊢ w ⊗ ((t ⊕ q) ⊗ U ⊕ q ⊗ (t ⊗ X ⊕ Y)) ≼ (a ⊕ b ⊕ d) ⊗ (r ⊗ (t ⊕ q) ⊕ q ⊗ t)) tt
-      r t q w U X Y (pos a) (pos b) (pos d)
-      (≤-times tq ha) (≤-times ht hb) (≤-times hq hd) (times-nonneg (nonneg a) (times-nonneg hq ht)) (times-nonneg (nonneg b) (times-nonneg hr hq)) (times-nonneg (nonneg d) (times-nonneg ht (sum-nonneg hr hq))))
+  solution-≤ : (u v U X Y : ℤ) (a b d : ℕ) → size u ≤ℤ U → size v ≤ℤ (t *ℤ X +ℤ Y) → (w *ℤ U) ≤ℤ (pos a *ℤ r) → (w *ℤ (q *ℤ X)) ≤ℤ (pos b *ℤ (r +ℤ q)) → (w *ℤ Y) ≤ℤ (pos d *ℤ r)
+      → (num den : ℤ) → num ≡ (t +ℤ q) *ℤ u +ℤ q *ℤ v → den ≡ r *ℤ (t +ℤ q) +ℤ q *ℤ t → pos 0 <ℤ den → (w *ℤ size (nearest num den)) ≤ℤ (pos (a + b + d) +ℤ w)
+  solution-≤ u v U X Y a b d hu hv ha hb hd num den en ed positive = nearest-size num (pos (a + b + d)) w positive hw (≤-trans (≤-times hw numerator) (≤-trans weighed (≤-of-eq (ap (λ z. pos (a + b + d) *ℤ z) (sym ed)))))
     where
       tq : pos 0 ≤ℤ (t +ℤ q)
       tq = sum-nonneg ht hq
@@ -74,8 +69,15 @@ module _ {r t q w : ℤ} (hr : pos 0 ≤ℤ r) (ht : pos 0 ≤ℤ t) (hq : pos 0
       scaled : (c d : ℤ) → pos 0 ≤ℤ c → size (c *ℤ d) ≡ c *ℤ size d
       scaled c d h = size-mul c d ∙ ap (λ z. z *ℤ size d) (size-nonneg h)
 
-      numerator : size ((t +ℤ q) *ℤ u +ℤ q *ℤ v) ≤ℤ ((t +ℤ q) *ℤ U +ℤ q *ℤ (t *ℤ X +ℤ Y))
-      numerator = ≤-trans (size-add ((t +ℤ q) *ℤ u) (q *ℤ v)) (≤-sum (≤-trans (≤-of-eq (scaled (t +ℤ q) u tq)) (≤-times tq hu)) (≤-trans (≤-of-eq (scaled q v hq)) (≤-times hq hv)))
+      numerator : size num ≤ℤ ((t +ℤ q) *ℤ U +ℤ q *ℤ (t *ℤ X +ℤ Y))
+      numerator = ≤-trans (≤-of-eq (ap size en)) (≤-trans (size-add ((t +ℤ q) *ℤ u) (q *ℤ v)) (≤-sum (≤-trans (≤-of-eq (scaled (t +ℤ q) u tq)) (≤-times tq hu)) (≤-trans (≤-of-eq (scaled q v hq)) (≤-times hq hv))))
+
+      weighed : (w *ℤ ((t +ℤ q) *ℤ U +ℤ q *ℤ (t *ℤ X +ℤ Y))) ≤ℤ (pos (a + b + d) *ℤ (r *ℤ (t +ℤ q) +ℤ q *ℤ t))
+      weighed = deduce 10 (λ r t q w U X Y a b d. times 1 ((t ⊕ q) ⊗ (w ⊗ U) ≼ (t ⊕ q) ⊗ (a ⊗ r)) ∷ times 1 (t ⊗ (w ⊗ (q ⊗ X)) ≼ t ⊗ (b ⊗ (r ⊕ q))) ∷ times 1 (q ⊗ (w ⊗ Y) ≼ q ⊗ (d ⊗ r))
+          ∷ times 1 (# 0 ≼ a ⊗ (q ⊗ t)) ∷ times 1 (# 0 ≼ b ⊗ (r ⊗ q)) ∷ times 1 (# 0 ≼ d ⊗ (t ⊗ (r ⊕ q))) ∷ []
+          ⊢ w ⊗ ((t ⊕ q) ⊗ U ⊕ q ⊗ (t ⊗ X ⊕ Y)) ≼ (a ⊕ b ⊕ d) ⊗ (r ⊗ (t ⊕ q) ⊕ q ⊗ t)) tt
+          r t q w U X Y (pos a) (pos b) (pos d)
+          (≤-times tq ha) (≤-times ht hb) (≤-times hq hd) (times-nonneg (nonneg a) (times-nonneg hq ht)) (times-nonneg (nonneg b) (times-nonneg hr hq)) (times-nonneg (nonneg d) (times-nonneg ht (sum-nonneg hr hq)))
 
 -- A point's move δ, and what its contact variable changes by, G·δ: small enough that a new displacement and a new contact variable fit 32 bits before they are judged.
 abbrev pub moveSize : ℕ
@@ -105,6 +107,9 @@ small-move {G} {δ} g k l move k-small change l-small = record {
   move = wide (unweighted k move) k-small;
   change = wide (record { size = ≤-pos (≤-trans (≤-of-eq (size-mul G δ)) (≤-trans change (≤-sum (≤-refl {a = pos l}) (pos-≤ (g .size))))) }) l-small;
 }
+
+determinant : (a m q : ℤ) → (a +ℤ q) *ℤ (m +ℤ q) -ℤ negℤ q *ℤ negℤ q ≡ a *ℤ (m +ℤ q) +ℤ q *ℤ m
+determinant = solve 3 (λ a m q. (a ⊕ q) ⊗ (m ⊕ q) ⊖ ⊝ q ⊗ ⊝ q ≐ a ⊗ (m ⊕ q) ⊕ q ⊗ m) tt
 
 module _ {s : Setup} {x : State} {G : PointsAndFinger} {F : Forces} (b : StepRanges s x G F) where
   -- away from p: |c| is at most 4096·2^25, and 128·(3·2^28 + 2^23)
@@ -145,10 +150,10 @@ module _ {s : Setup} {x : State} {G : PointsAndFinger} {F : Forces} (b : StepRan
     where
       weighted : (w : ℤ) (k n l j : ℕ) → pos 0 ≤ℤ w → (pos k *ℤ w) ≤ℤ a → T (leb (2 ^ 37 + 2 ^ 30) (n * k)) → T (leb (2 ^ 35 + 2 ^ 30) (j * k)) → (w *ℤ (q *ℤ pos (2 ^ 22))) ≤ℤ (pos l *ℤ (a +ℤ q))
           → (w *ℤ size (rounded₁ (system s x G F))) ≤ℤ (pos (n + l + j) +ℤ w)
-      weighted w k n l j hw h t t' r = nearest-size (det₁ (system s x G F)) (pos (n + l + j)) w (det-positive s x G F (b .setup .mass-low)) hw
-          (≤-trans (≤-of-eq (ap (λ z. w *ℤ size z) (solve 4 (λ u v m q. u ⊗ (m ⊕ q) ⊖ ⊝ q ⊗ v ≐ (m ⊕ q) ⊗ u ⊕ q ⊗ v) tt b₁ b₂ mass q)))
-          (≤-trans (numerator-≤ a-low (nonneg (m s)) q-low hw b₁ b₂ (pos (2 ^ 37 + 2 ^ 30)) (pos (2 ^ 22)) (pos (2 ^ 35 + 2 ^ 30)) n l j (pos-≤ (b₁-size b .size)) (pos-≤ (b₂-size b .size)) (weighs k hw h (2 ^ 37 + 2 ^ 30) n t) r (weighs k hw h (2 ^ 35 + 2 ^ 30) j t'))
-          (≤-of-eq (ap (λ z. pos (n + l + j) *ℤ z) (solve 3 (λ a m q. a ⊗ (m ⊕ q) ⊕ q ⊗ m ≐ (a ⊕ q) ⊗ (m ⊕ q) ⊖ ⊝ q ⊗ ⊝ q) tt a mass q)))))
+      weighted w k n l j hw h t t' r =
+          solution-≤ a-low (nonneg (m s)) q-low hw b₁ b₂ (pos (2 ^ 37 + 2 ^ 30)) (pos (2 ^ 22)) (pos (2 ^ 35 + 2 ^ 30)) n l j
+          (pos-≤ (b₁-size b .size)) (pos-≤ (b₂-size b .size)) (weighs k hw h (2 ^ 37 + 2 ^ 30) n t) r (weighs k hw h (2 ^ 35 + 2 ^ 30) j t')
+          (det₁ (system s x G F)) (det (system s x G F)) (solve 4 (λ u v m q. u ⊗ (m ⊕ q) ⊖ ⊝ q ⊗ v ≐ (m ⊕ q) ⊗ u ⊕ q ⊗ v) tt b₁ b₂ mass q) (determinant a mass q) (det-positive s x G F (b .setup .mass-low))
 
       one : (pos 1 *ℤ (q *ℤ pos (2 ^ 22))) ≤ℤ (pos (2 ^ 22) *ℤ (a +ℤ q))
       one = deduce 2 (λ a q. times 4194304 (# 0 ≼ a) ∷ [] ⊢ # 1 ⊗ (q ⊗ # 4194304) ≼ # 4194304 ⊗ (a ⊕ q)) tt a q a-low
@@ -176,10 +181,11 @@ module _ {s : Setup} {x : State} {G : PointsAndFinger} {F : Forces} (b : StepRan
       none = ≤-of-eq (solve 2 (λ m q. # 1 ⊗ (q ⊗ # 0) ≐ # 0 ⊗ (m ⊕ q)) tt mass q)
 
       weighted : (pos 1 *ℤ size (rounded₂ (system s x G F))) ≤ℤ (pos (2 ^ 43 + 0 + 2 ^ 38) +ℤ pos 1)
-      weighted = nearest-size (det₂ (system s x G F)) (pos (2 ^ 43 + 0 + 2 ^ 38)) (pos 1) (det-positive s x G F (b .setup .mass-low)) (nonneg 1)
-          (≤-trans (≤-of-eq (ap (λ z. pos 1 *ℤ size z) (solve 4 (λ u v a q. (a ⊕ q) ⊗ v ⊖ u ⊗ ⊝ q ≐ (a ⊕ q) ⊗ v ⊕ q ⊗ u) tt b₁ b₂ a q)))
-          (≤-trans (numerator-≤ (nonneg (m s)) a-low q-low (nonneg 1) b₂ b₁ (pos (2 ^ 43)) (pos 0) (pos (2 ^ 38)) (2 ^ 43) 0 (2 ^ 38) most other (weighs 1 (nonneg 1) mass-low (2 ^ 43) (2 ^ 43) tt) none (weighs 1 (nonneg 1) mass-low (2 ^ 38) (2 ^ 38) tt))
-          (≤-of-eq (ap (λ z. pos (2 ^ 43 + 0 + 2 ^ 38) *ℤ z) (solve 3 (λ a m q. m ⊗ (a ⊕ q) ⊕ q ⊗ a ≐ (a ⊕ q) ⊗ (m ⊕ q) ⊖ ⊝ q ⊗ ⊝ q) tt a mass q)))))
+      weighted =
+          solution-≤ (nonneg (m s)) a-low q-low (nonneg 1) b₂ b₁ (pos (2 ^ 43)) (pos 0) (pos (2 ^ 38)) (2 ^ 43) 0 (2 ^ 38)
+          most other (weighs 1 (nonneg 1) mass-low (2 ^ 43) (2 ^ 43) tt) none (weighs 1 (nonneg 1) mass-low (2 ^ 38) (2 ^ 38) tt)
+          (det₂ (system s x G F)) (det (system s x G F)) (solve 4 (λ u v a q. (a ⊕ q) ⊗ v ⊖ u ⊗ ⊝ q ≐ (a ⊕ q) ⊗ v ⊕ q ⊗ u) tt b₁ b₂ a q)
+          (determinant a mass q ∙ solve 3 (λ a m q. a ⊗ (m ⊕ q) ⊕ q ⊗ m ≐ m ⊗ (a ⊕ q) ⊕ q ⊗ a) tt a mass q) (det-positive s x G F (b .setup .mass-low))
 
   -- ---- all moves
 

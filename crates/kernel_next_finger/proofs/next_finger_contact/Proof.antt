@@ -3,6 +3,7 @@ use mathlib.Core.List.{[], _∷_}
 use Prim.Native.Nat.{_^_, pred}
 use mir.Syntax.{w32, w64}
 use Rattle.integers.specs.Machine.{Code, var, _⊞_, _⊟_, _⊠_, cast, Env, ∅, _▹_, _▸_, result, answer}
+use Rattle.laws.specs.MoveSizes.{moveSize}
 use Rattle.kernel_next_finger.proofs.next_finger_contact.Statement.{statement}
 use Rattle.kernel_next_finger.proofs.next_finger_contact.Tie as tie
 use Rattle.kernel_next_finger.proofs.next_finger_contact.Reads as reads
@@ -12,7 +13,7 @@ abbrev body : Code
 body = cast w32 (var 0) ⊞ var 1 ⊠ (var 2 ⊟ var 3)
 
 ρ : (c : lts.Start reads.Pre reads.Post)
-    → (let a = c .args in Env (a .contact ∷ a .gradient ∷ a .delta ∷ a .finger-delta ∷ []) (2 ^ 31 ∷ 255 ∷ 2 ^ 26 ∷ 2 ^ 44 ∷ []) (pred (2 ^ 31) ∷ 255 ∷ 2 ^ 26 ∷ 2 ^ 44 ∷ []))
+    → (let a = c .args in Env (a .contact ∷ a .gradient ∷ a .delta ∷ a .finger-delta ∷ []) (2 ^ 31 ∷ 255 ∷ moveSize ∷ 2 ^ 44 ∷ []) (pred (2 ^ 31) ∷ 255 ∷ moveSize ∷ 2 ^ 44 ∷ []))
 ρ c = c .fits .contact ▸ c .pre .0 ▹ c .pre .1 ▹ c .pre .2 ▹ ∅
 
 returns : tie.Need-returns
