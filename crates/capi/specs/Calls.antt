@@ -5,9 +5,9 @@ use lib.IntN.{ℤ}
 use Rattle.model.specs.Neck.{NeckResult}
 use Rattle.model.specs.Start.{StartResult}
 use Rattle.model.specs.Step.{StepResult}
-use Rattle.capi_types.specs.Rows.{number, startRow, stepRow}
-use Rattle.capi_types.specs.declared.start.StartRow.{StartRow}
-use Rattle.capi_types.specs.declared.step.StepRow.{StepRow}
+use Rattle.capi.specs.Rows.{number, startRow, stepRow}
+use Rattle.capi.specs.declared.sv_fresh_start.StartRow.{StartRow}
+use Rattle.capi.specs.declared.sv_step.StepRow.{StepRow}
 
 pub record NeckCall : Type 0 where
   pub refusal : ℕ

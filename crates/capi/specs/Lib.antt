@@ -1,2 +1,4 @@
--- What the contracts of the exported functions cite: the results of the model's operations in the form that a C caller gets.
+-- What the contracts of the exported functions cite: the setup from its row of numbers, the answers as rows, and the results of the model's operations in the
+-- form that a C caller gets.
+pub mod Rows
 pub mod Calls

@@ -1,5 +1,6 @@
 // The types of the string voice: a setup, a finger, a pickup frame, and what each operation answers.
-// What they mean is in specs/, a file for each section of document 01.
+// What they mean is in specs/, a file for each section of document 01. `bounds` has 01's ranges and sizes.
+pub mod bounds;
 
 // 01, 'Setup': what the finger brings to it, under 01's letters p, K and m.
 pub struct FingerSetup {

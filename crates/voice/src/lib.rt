@@ -1,25 +1,25 @@
 // The string voice: what a caller may do, and the types of arguments and answers. Each operation stands in a crate of its own, with its contract.
 
 // 01, 'Setup': examines a setup.
-pub use voice_setup::check_setup;
+pub use setup::check_setup;
 
 // 01, 'Laying the neck': writes heights and stiffness from the board and the frets.
-pub use voice_neck::lay_neck;
+pub use neck::lay_neck;
 
 // 01, 'One step': clears strings and contact variables, and gives turn and finger.
-pub use voice_start::fresh_start;
+pub use start::fresh_start;
 
 // 01, 'One step': writes the new string over the older buffer and the contact variables, and gives turn, finger and frame.
-pub use voice_step::step;
+pub use step::step;
 
 // 01, 'Playing a block, reading a place': makes steps until the forces end or one is refused, and writes their pickup frames.
-pub use voice_block::play_block;
+pub use block::play_block;
 
 // 01, 'One step': the newest string, as that one of the two lent buffers.
-pub use voice_newest::newest;
+pub use reading::newest::newest;
 
 // 01, 'Playing a block, reading a place': the newest displacement at a place and, where the string is pressed, its depth.
-pub use voice_reading::read_place;
+pub use reading::read_place;
 
 // What is passed and answered.
 pub use model::BlockAnswer;

@@ -16,17 +16,5 @@ abbrev μ-loop : tie.MeasureT-loop
 
 pub unsigned-list-spec : {M : Type 1} → statement M
 unsigned-list-spec =
-    tie.close
-    (tie.spec
-    Inv-loop
-    μ-loop
-    (λ c κs. tt)
-    (λ c. omega arith)
-    (λ c κs. tt)
-    (λ c. search needs)
-    (λ c. omega arith)
-    (λ c. omega arith)
-    (λ c. omega arith)
-    (λ c. simp length-set (omega arith))
-    (λ c. sym (length-take-le _ _ (omega arith)))
-    (λ c. tt))
+    tie.close (tie.spec Inv-loop μ-loop (λ c κs. tt) (λ c. omega arith) (λ c κs. tt) (λ c. search needs) (λ c. omega arith) (λ c. omega arith) (λ c. omega arith)
+    (λ c. simp length-set (omega arith)) (λ c. sym (length-take-le _ _ (omega arith))) (λ c. tt))

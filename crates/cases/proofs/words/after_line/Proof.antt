@@ -14,15 +14,5 @@ abbrev μ-loop : tie.MeasureT-loop
 
 pub after-line-spec : {M : Type 1} → statement M
 after-line-spec =
-    tie.close
-    (tie.spec
-    Inv-loop
-    μ-loop
-    (λ c. (refl, (omega arith, omega arith)))
-    (λ c. omega arith)
-    (λ c. omega arith)
-    (λ c. (omega arith, omega arith))
-    (λ c. omega arith)
-    (λ c. omega arith)
-    (λ c. (omega arith, (omega arith, omega arith)))
-    (λ c. (omega arith, omega arith)))
+    tie.close (tie.spec Inv-loop μ-loop (λ c. (refl, (omega arith, omega arith))) (λ c. omega arith) (λ c. omega arith) (λ c. (omega arith, omega arith))
+    (λ c. omega arith) (λ c. omega arith) (λ c. (omega arith, (omega arith, omega arith))) (λ c. (omega arith, omega arith)))

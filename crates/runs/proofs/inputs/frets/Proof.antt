@@ -15,17 +15,6 @@ abbrev μ-loop : tie.MeasureT-loop
 
 pub frets-spec : {M : Type 1} → statement M
 frets-spec =
-    tie.close
-    (tie.spec
-    Inv-loop
-    μ-loop
-    (λ c κs. omega arith)
-    (λ c. (refl, omega arith))
-    (λ c. omega arith)
-    (λ c κs. omega arith)
-    (λ c κs. omega arith)
-    (λ c. omega arith)
-    (λ c. omega arith)
-    (λ c. (search needs, search needs))
-    (λ c. c .before .loop .inv .0)
+    tie.close (tie.spec Inv-loop μ-loop (λ c κs. omega arith) (λ c. (refl, omega arith)) (λ c. omega arith) (λ c κs. omega arith) (λ c κs. omega arith)
+    (λ c. omega arith) (λ c. omega arith) (λ c. (search needs, search needs)) (λ c. c .before .loop .inv .0)
     (λ c. (c .before .loop .inv .1, simp length-take (omega arith))))

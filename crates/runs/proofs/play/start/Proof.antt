@@ -7,19 +7,5 @@ use Rattle.runs.proofs.play.start.Tie as tie
 
 pub start-spec : {M : Type 1} → statement M
 start-spec =
-    tie.close
-    (tie.spec
-    (λ c κs. tt)
-    (λ c κs. tt)
-    (λ c κs. tt)
-    (λ c κs. tt)
-    (λ c. omega arith)
-    (λ c. sym (length-take-le _ _ (omega arith)))
-    (λ c. omega arith)
-    (λ c. sym (length-take-le _ _ (omega arith)))
-    (λ c. omega arith)
-    (λ c. sym (length-take-le _ _ (omega arith)))
-    (λ c κs. tt)
-    (λ c κs. tt)
-    (λ c κs. tt)
-    (λ c. tt))
+    tie.close (tie.spec (λ c κs. tt) (λ c κs. tt) (λ c κs. tt) (λ c κs. tt) (λ c. omega arith) (λ c. sym (length-take-le _ _ (omega arith))) (λ c. omega arith)
+    (λ c. sym (length-take-le _ _ (omega arith))) (λ c. omega arith) (λ c. sym (length-take-le _ _ (omega arith))) (λ c κs. tt) (λ c κs. tt) (λ c κs. tt) (λ c. tt))

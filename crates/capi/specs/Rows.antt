@@ -1,0 +1,58 @@
+-- The setup from its row of numbers, and the answers of the operations as rows of numbers.
+use Prim.Native.Nat.{ℕ}
+use lib.IntN.{pos}
+use lib.Ieee.{Float, binary64}
+use Rattle.model.specs.Fraction.{fraction}
+use Rattle.model.specs.Refusal.{Answer, accepted, refused}
+use Rattle.model.specs.Step.{StepResult, frameOf}
+use Rattle.model.specs.declared.Setup.{Setup}
+use Rattle.model.specs.declared.Started.{Started}
+use Rattle.model.specs.declared.Frame.{Frame}
+use Rattle.model.specs.declared.Reading.{Reading}
+use Rattle.model.specs.declared.Reading.the-variants.{Free, Pressed, Refused}
+use Rattle.capi.specs.declared.setup_row.SetupRow.{SetupRow}
+use Rattle.capi.specs.declared.sv_fresh_start.StartRow.{StartRow}
+use Rattle.capi.specs.declared.sv_step.StepRow.{StepRow}
+use Rattle.capi.specs.declared.sv_read_place.ReadingRow.{ReadingRow}
+
+abbrev pub setupOf : SetupRow → Setup
+setupOf row = record {
+  segments = row .segments;
+  tension = row .tension;
+  stiffness = row .stiffness;
+  viscous = row .viscous;
+  plain = row .plain;
+  finger = record { place = row .«finger_place»; stiffness = row .«finger_stiffness»; mass = row .«finger_mass» };
+  «pluck_place» = row .«pluck_place»;
+  «bridge_place» = row .«bridge_place»;
+  «neck_place» = row .«neck_place»;
+}
+
+-- the refusal's number, 0 if there is none
+abbrev pub number : {A : Type 0} → Answer A → ℕ
+number (accepted a) = 0
+number (refused n) = n
+
+-- turn and finger of an accepted fresh start; zeros after a refusal
+abbrev pub startRow : Answer Started → StartRow
+startRow (accepted a) = record { refusal = 0; turn = a .turn; finger = a .finger }
+startRow (refused n) = record { refusal = n; turn = 0; finger = record { newer = pos 0; older = pos 0; contact = pos 0 } }
+
+-- the frame of an accepted step, of two zeros after a refusal
+abbrev pub frameOrZero : Answer Frame → Frame
+frameOrZero (accepted f) = f
+frameOrZero (refused n) = frameOf (pos 0) (pos 0)
+
+-- turn and finger after a step, which after a refusal are those passed in
+abbrev pub stepRow : StepResult → StepRow
+stepRow r = record { refusal = number (r .answer); turn = r .lent .turn; finger = r .lent .finger; frame = frameOrZero (r .answer) }
+
+-- 0, in double precision
+abbrev pub none : Float
+none = fraction binary64 (pos 0)
+
+-- pressed is 1 for a pressed place and 0 for any other; a free place has no depth
+abbrev pub readingRow : Reading → ReadingRow
+readingRow (Free u) = record { refusal = 0; pressed = 0; displacement = u; depth = none }
+readingRow (Pressed u depth) = record { refusal = 0; pressed = 1; displacement = u; depth = depth }
+readingRow (Refused n) = record { refusal = n; pressed = 0; displacement = none; depth = none }

@@ -1,0 +1,2 @@
+-- What the proofs of scans share.
+pub mod Scan

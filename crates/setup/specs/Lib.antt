@@ -1,0 +1,2 @@
+-- What the proofs of the entries share.
+pub mod Entry

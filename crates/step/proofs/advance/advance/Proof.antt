@@ -1,0 +1,139 @@
+-- `advance` meets its contract: row 12 is gone through, the next state is worked out, and its outcome is what is left of the step.
+use mathlib.Core.Path.{_≡_, refl, _∙_, ap}
+use mathlib.Core.List.{List, [], _∷_}
+use Prim.Native.Nat.{ℕ}
+use native.Mathlib.Omega.{arith}
+use borrow.Author.Needs.{needs, sfits-of}
+use lib.ListN.{drop, take}
+use mir.Syntax.{w32}
+use mir.Facts.{toZ-ofZ}
+use Rattle.model.specs.Ranges.{all, forceOk}
+use Rattle.model.specs.Refusal.{Rule, firstOf}
+use Rattle.model.specs.Setup.{points, setupRules}
+use Rattle.model.specs.State.{State, Neck, Forces}
+use Rattle.model.specs.Step.{callRules, workedStep, nextState, buffersRule, stateRule, forcesRule}
+use Rattle.model.specs.Neck.{heightsRule}
+use Rattle.model.specs.declared.Setup.{Setup}
+use Rattle.model.specs.declared.StepAnswer.the-variants.{Refused}
+use Rattle.promises.specs.Promises.{Passed}
+use Rattle.laws.specs.Accepted.{Examined, examined}
+use Rattle.laws.specs.Advance as Steps
+use Rattle.laws.specs.Advance.{Advanced, advancedResult, lateRules}
+use Rattle.laws.specs.Ready.{Ready}
+use Rattle.laws.specs.Refusals.{Reached, reached-top, row-passed-not, row-holds-not, row-fact, refused-by, append-passed, not-not}
+use Rattle.step.specs.Given.{neckOf, stateWith, forcesOf, forces-read}
+use Rattle.step.specs.Outcome.{outcome, by-outcome}
+use Rattle.step.proofs.advance.advance.Statement.{statement}
+use Rattle.step.proofs.advance.advance.Tie as tie
+
+module _ (k : tie.Start) where
+  abbrev s : Setup
+  s = k .args .setup
+
+  abbrev neck : Neck
+  neck = neckOf (k .args .heights .now) (k .args .stiffness .now)
+
+  abbrev x : State
+  x = stateWith (k .args .finger) (k .args .newer .now) (k .args .older .now) (k .args .contact .now)
+
+  abbrev F : Forces
+  F = forcesOf (k .args .pluck) (k .args .force)
+
+  -- the state that the step leads to
+  abbrev y : State
+  y = nextState (workedStep s neck x F)
+
+  abbrev rules : List Rule
+  rules = lateRules s neck x F
+
+  -- the rows below the n-th
+  abbrev After : ℕ → Type 0
+  After n = Reached rules (drop n rules)
+
+  abbrev result : Advanced
+  result = Steps.advance (k .args .turn) s neck x F
+
+  ready : Ready s neck x
+  ready = k .pre .1
+
+  at-top : After 0
+  at-top = reached-top
+
+  turned-down : (n : ℕ) → firstOf rules ≡ n → (n ≡ 0 → ⊥) → advancedResult (Refused n) (x .older) (x .contact) ≡ result
+  unfolding Steps.advance
+  turned-down n e h = refused-by rules _ _ n e h
+
+judged-12 : (c : tie.After-forces-ok) → (let F = F (c .before .before) in c .forces-ok .result ≡ all forceOk (F .pluck ∷ F .finger ∷ []))
+judged-12 c = let k = c .before .before in c .forces-ok .ensures ∙ ap (λ F. all forceOk (F .pluck ∷ F .finger ∷ [])) (forces-read (k .fits .pluck) (k .fits .force))
+
+returns : tie.Need-returns
+unfolding lateRules
+returns c = turned-down (c .before .before .before) 12 (row-holds-not (at-top (c .before .before .before)) (judged-12 (c .before)) (c .if1 .taken)) (λ z. omega arith)
+
+module _ (c : tie.Else1) where
+  abbrev call-1 : tie.Start
+  call-1 = c .before .before .before
+
+  after-12 : After call-1 1
+  unfolding lateRules
+  after-12 = row-passed-not (at-top call-1) (judged-12 (c .before)) (c .if1 .left)
+
+  -- 1 to 12 are passed
+  passed : Passed (callRules (s call-1) (neck call-1) (x call-1) (F call-1))
+  unfolding callRules
+  passed =
+      let r = ready call-1 in
+      let forces = row-fact (judged-12 (c .before)) (c .if1 .left) in
+      append-passed (setupRules (s call-1)) (buffersRule (s call-1) (neck call-1) (x call-1) ∷ heightsRule (neck call-1 .heights) ∷ stateRule (x call-1) ∷ forcesRule (F call-1) ∷ []) (r .setup)
+      (r .buffers .0, (r .heights .0, (r .state .0, (not-not (all forceOk (F call-1 .pluck ∷ F call-1 .finger ∷ [])) forces, tt))))
+
+  lengths : Examined (s call-1) (neck call-1) (x call-1)
+  unfolding callRules
+  lengths = examined (s call-1) (neck call-1) (x call-1) _ passed
+
+work-out-requires : tie.Need-work-out-requires
+work-out-requires c κs =
+    let e = c .before .before .before .before in
+    let k = call-1 e in
+    rw (toZ-ofZ (k .fits .pluck), toZ-ofZ (k .fits .force)) (k .pre .0, passed e, refl, refl)
+
+-- the next state as it was worked out
+module _ (w : tie.After-work-out) where
+  abbrev e : tie.Else1
+  e = w .before .before .before .before .before
+
+  abbrev k : tie.Start
+  k = call-1 e
+
+  next-is : _≡_ {A = State} (record {
+    newer = take (points (s k)) (w .work-out .last .1 .1 .1 .1 .1 .1 .1 .1 .1 .1 .0);
+    older = x k .newer;
+    contact = take (points (s k)) (w .work-out .last .1 .1 .1 .1 .1 .1 .1 .1 .1 .1 .1 .0);
+    finger = record { newer = w .work-out .result .height; older = x k .finger .newer; contact = w .work-out .result .contact };
+  }) (y k)
+  next-is = w .work-out .ensures .2 ∙ ap (λ F. nextState (workedStep (s k) (neck k) (x k) F)) (forces-read (k .fits .pluck) (k .fits .force))
+
+outcome-requires : tie.Need-outcome-requires
+outcome-requires c κs =
+    let w = c .before .before .before .before .before in
+    let h = lengths (e w) in
+    (ready (k w) .setup, w .work-out .ensures .0, w .work-out .ensures .1, h .older .long, h .contact .long)
+
+returns-2 : tie.Need-returns-2
+unfolding nextState workedStep
+returns-2 c =
+    let told = c .before .before .before in
+    let w = told .before .before .before .before .before in
+    let x = x (k w) in
+    let older-height = toZ-ofZ {w = w32} (sfits-of (told .struct-told .given .0 .1)) in
+    c .before .before .outcome .ensures
+    ∙ ap (λ y. outcome (k w .args .turn) (s (k w)) y (x .older) (x .contact)) (λ i. record {
+      newer = next-is w i .newer;
+      older = x .older;
+      contact = next-is w i .contact;
+      finger = record { newer = next-is w i .finger .newer; older = older-height i; contact = next-is w i .finger .contact };
+    })
+    ∙ by-outcome (k w .args .turn) (s (k w)) (neck (k w)) x (F (k w)) (x .older) (after-12 (e w))
+
+pub advance-spec : {M : Type 1} → statement M
+advance-spec = tie.close (tie.spec (λ c κs. tt) returns work-out-requires outcome-requires (λ c. search needs) (λ c. search needs) returns-2)

@@ -1,2 +1,0 @@
--- What the proofs of this crate share with those of `voice_laying`.
-pub mod Scan

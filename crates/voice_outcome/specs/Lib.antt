@@ -1,2 +1,0 @@
--- What the contract of `outcome` cites.
-pub mod Outcome
