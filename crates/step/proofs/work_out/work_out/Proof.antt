@@ -13,10 +13,9 @@ use mir.Facts.{toZ-ofZ}
 use Rattle.model.specs.Ranges.{forceOk}
 use Rattle.model.specs.Setup.{p, points}
 use Rattle.model.specs.Differences.{at, plus, minus, times}
-use Rattle.model.specs.State.{State, Neck, Forces, PointsAndFinger}
+use Rattle.model.specs.State.{State, PointsAndFinger}
 use Rattle.model.specs.Step as Steps
 use Rattle.model.specs.Step.{gradients, workedStep, nextState}
-use Rattle.model.specs.declared.Setup.{Setup}
 use Rattle.integers.specs.Bits.{wide-fits, wide-is}
 use Rattle.integers.specs.Size.{_within_, fits}
 use Rattle.laws.specs.Accepted.{Examined}
@@ -26,47 +25,38 @@ use Rattle.motion.specs.Front.{front-at}
 use Rattle.motion.specs.InRange.{finger-place, finger-point}
 use Rattle.motion.specs.MoveRanges.{MoveRanges}
 use Rattle.motion.specs.Weighted.{StringRanges}
-use Rattle.step.specs.Given.{neckOf, stateWith, forcesOf, forces-read}
+use Rattle.step.specs.Given.{Given, givenBy, stateWith, forces-read}
 use Rattle.step.proofs.work_out.Called.{Called, called}
 use Rattle.step.proofs.work_out.work_out.Statement.{statement}
 use Rattle.step.proofs.work_out.work_out.Tie as tie
 
 module _ (k : tie.Start) where
-  abbrev s : Setup
-  s = k .args .setup
+  abbrev given : Given State
+  given = givenBy (k .args .setup) (k .args .heights .now) (k .args .stiffness .now) (stateWith (k .args .finger) (k .args .newer .now) (k .args .older .now) (k .args .contact .now)) (k .args .pluck) (k .args .force)
 
-  abbrev neck : Neck
-  neck = neckOf (k .args .heights .now) (k .args .stiffness .now)
-
-  abbrev x : State
-  x = stateWith (k .args .finger) (k .args .newer .now) (k .args .older .now) (k .args .contact .now)
-
-  abbrev F : Forces
-  F = forcesOf (k .args .pluck) (k .args .force)
-
-  given : Called s neck x F
-  given = called s neck x F (k .pre .1)
+  known : Called (given .s) (given .neck) (given .x) (given .F)
+  known = called (given .s) (given .neck) (given .x) (given .F) (k .pre .1)
 
   abbrev G : PointsAndFinger
-  G = gradients s neck x
+  G = gradients (given .s) (given .neck) (given .x)
 
   abbrev δ : PointsAndFinger
-  δ = Steps.moves s x G F
+  δ = Steps.moves (given .s) (given .x) G (given .F)
 
-  short : (n : ℕ) → n ≡ points s → n ≤ 127
-  short n e = let l = given .lengths .setup .segments in rw e (omega arith)
+  short : (n : ℕ) → n ≡ points (given .s) → n ≤ 127
+  short n e = let l = known .lengths .setup .segments in rw e (omega arith)
 
 point-gradients-requires : tie.Need-point-gradients-requires
 point-gradients-requires c κs =
     let k = c .before .before in
-    let h = given k in
+    let h = known k in
     let n = h .lengths .newer .long in
     (k .pre .0, h .lengths .heights .long ∙ sym n, h .lengths .stiffness ∙ sym n, short k _ n, refl, h .heights, h .range .newer)
 
 finger-gradient-requires : tie.Need-finger-gradient-requires
 finger-gradient-requires c κs =
     let k = c .before .before .before in
-    let h = given k in
+    let h = known k in
     (k .pre .0, h .setup, h .lengths .newer .long, h .range .newer, h .range .height)
 
 -- the gradients as they were worked out
@@ -77,9 +67,9 @@ module _ (c : tie.After-finger-gradient) where
   abbrev point-array : List ℤ
   point-array = c .before .point-gradients .last .1 .1 .1 .1 .0
 
-  point-gradients-are : take (points (s start)) point-array ≡ G start .points
+  point-gradients-are : take (points (given start .s)) point-array ≡ G start .points
   unfolding gradients
-  point-gradients-are = ap (λ (n : ℕ). take n point-array) (sym (given start .lengths .newer .long)) ∙ c .before .point-gradients .ensures .1
+  point-gradients-are = ap (λ (n : ℕ). take n point-array) (sym (known start .lengths .newer .long)) ∙ c .before .point-gradients .ensures .1
 
   finger-gradient-is : toZ w64 (ofZ w64 (c .finger-gradient .result)) ≡ G start .finger
   unfolding gradients
@@ -89,8 +79,8 @@ moves-requires : tie.Need-moves-requires
 moves-requires c κs =
     let d = c .before .before in
     let k = start d in
-    let h = given k in (
-      subst (MoveRanges (s k) (x k .newer) (x k .older) (x k .contact)) (sym (toZ-ofZ (k .fits .pluck))) (h .moving),
+    let h = known k in (
+      subst (MoveRanges (given k .s) (given k .x .newer) (given k .x .older) (given k .x .contact)) (sym (toZ-ofZ (k .fits .pluck))) (h .moving),
       d .before .point-gradients .ensures .0,
       subst (λ l. Bounded l 255) (sym (point-gradients-are d)) (h .sizes .gradients),
       refl,
@@ -110,42 +100,42 @@ module _ (c : tie.After-moves) where
   abbrev move-array : List ℤ
   move-array = c .moves .last .1 .1 .1 .1 .1 .1 .1 .1 .1 .0
 
-  moves-are : _≡_ {A = PointsAndFinger} (record { points = take (points (s k)) move-array; finger = c .moves .result }) (δ k)
+  moves-are : _≡_ {A = PointsAndFinger} (record { points = take (points (given k .s)) move-array; finger = c .moves .result }) (δ k)
   moves-are = c .moves .ensures .1
-      ∙ ap₂ (λ G F. Steps.moves (s k) (x k) G F) (ap₂ (λ points finger. record { points = points; finger = finger }) (point-gradients-are d) (finger-gradient-is d))
+      ∙ ap₂ (λ G F. Steps.moves (given k .s) (given k .x) G F) (ap₂ (λ points finger. record { points = points; finger = finger }) (point-gradients-are d) (finger-gradient-is d))
       (forces-read (k .fits .pluck) (k .fits .force))
 
-  point-moves-are : take (points (s k)) move-array ≡ δ k .points
+  point-moves-are : take (points (given k .s)) move-array ≡ δ k .points
   point-moves-are = ap (λ m. m .points) moves-are
 
   finger-move-is : toZ w64 (ofZ w64 (c .moves .result)) ≡ δ k .finger
   finger-move-is = toZ-ofZ (record { sfits = c .moves .ok }) ∙ ap (λ m. m .finger) moves-are
 
-  sizes : StepRanges (s k) (x k) (G k) (F k)
-  sizes = given k .sizes
+  sizes : StepRanges (given k .s) (given k .x) (G k) (given k .F)
+  sizes = known k .sizes
 
   finger-move-size : δ k .finger within 2 ^ 44
   unfolding Steps.moves
   finger-move-size = rounded₂-size sizes
 
   -- of the first n numbers, where n is the length of a lent string
-  front-moves : (n : ℕ) → n ≡ points (s k) → take n move-array ≡ δ k .points
+  front-moves : (n : ℕ) → n ≡ points (given k .s) → take n move-array ≡ δ k .points
   front-moves n e = ap (λ (n : ℕ). take n move-array) e ∙ point-moves-are
 
-  front-gradients : (n : ℕ) → n ≡ points (s k) → take n (point-array d) ≡ G k .points
+  front-gradients : (n : ℕ) → n ≡ points (given k .s) → take n (point-array d) ≡ G k .points
   front-gradients n e = ap (λ (n : ℕ). take n (point-array d)) e ∙ point-gradients-are d
 
-  moves-within : (n : ℕ) → n ≡ points (s k) → Bounded (take n move-array) moveSize
+  moves-within : (n : ℕ) → n ≡ points (given k .s) → Bounded (take n move-array) moveSize
   moves-within n e = subst (λ l. Bounded l moveSize) (sym (front-moves n e)) (λ i. moves-small sizes i .move)
 
-  gradients-within : (n : ℕ) → n ≡ points (s k) → Bounded (take n (point-array d)) 255
+  gradients-within : (n : ℕ) → n ≡ points (given k .s) → Bounded (take n (point-array d)) 255
   gradients-within n e = subst (λ l. Bounded l 255) (sym (front-gradients n e)) (sizes .gradients)
 
-  changes-within : (n : ℕ) → n ≡ points (s k) → Bounded (times (take n (point-array d)) (take n move-array)) changeSize
-  changes-within n e = subst (λ l. Bounded l changeSize) (sym (ap₂ times (front-gradients n e) (front-moves n e))) (changes-small (s k) (neck k) (x k) (F k) (k .pre .1))
+  changes-within : (n : ℕ) → n ≡ points (given k .s) → Bounded (times (take n (point-array d)) (take n move-array)) changeSize
+  changes-within n e = subst (λ l. Bounded l changeSize) (sym (ap₂ times (front-gradients n e) (front-moves n e))) (changes-small (given k .s) (given k .neck) (given k .x) (given k .F) (k .pre .1))
 
-  lengths : Examined (s k) (neck k) (x k)
-  lengths = given k .lengths
+  lengths : Examined (given k .s) (given k .neck) (given k .x)
+  lengths = known k .lengths
 
 next-string-requires : tie.Need-next-string-requires
 next-string-requires c κs =
@@ -162,10 +152,10 @@ next-contact-requires c κs =
 -- δ at p, read from the array
 module _ (m : tie.After-moves) where
   abbrev place : ℕ
-  place = p (s (k m))
+  place = p (given (k m) .s)
 
-  strings-range : StringRanges (s (k m)) (x (k m) .newer) (x (k m) .older)
-  strings-range = given (k m) .moving .strings
+  strings-range : StringRanges (given (k m) .s) (given (k m) .x .newer) (given (k m) .x .older)
+  strings-range = known (k m) .moving .strings
 
   delta-read : getD (move-array m) (place - 1) (pos 0) ≡ at (δ (k m) .points) place
   delta-read = sym (front-at (move-array m) (place - 1) (finger-point strings-range)) ∙ ap₂ at (point-moves-are m) (finger-place strings-range)
@@ -202,23 +192,23 @@ module _ (c : tie.After-new-finger) where
   contacts = c .before .before .before
 
   abbrev n : ℕ
-  n = points (s a)
+  n = points (given a .s)
 
-  string-is : take n (strings .next-string .last .1 .1 .0) ≡ plus (x a .older) (δ a .points)
+  string-is : take n (strings .next-string .last .1 .1 .0) ≡ plus (given a .x .older) (δ a .points)
   string-is =
       let e = lengths m .older .long in
-      ap (λ (n : ℕ). take n (strings .next-string .last .1 .1 .0)) (sym e) ∙ strings .next-string .ensures .1 ∙ ap (plus (x a .older)) (front-moves m _ e)
+      ap (λ (n : ℕ). take n (strings .next-string .last .1 .1 .0)) (sym e) ∙ strings .next-string .ensures .1 ∙ ap (plus (given a .x .older)) (front-moves m _ e)
 
-  contact-is : take n (contacts .next-contact .last .1 .1 .1 .0) ≡ minus (x a .contact) (times (G a .points) (δ a .points))
+  contact-is : take n (contacts .next-contact .last .1 .1 .1 .0) ≡ minus (given a .x .contact) (times (G a .points) (δ a .points))
   contact-is =
       let e = lengths m .contact .long in
       ap (λ (n : ℕ). take n (contacts .next-contact .last .1 .1 .1 .0)) (sym e) ∙ contacts .next-contact .ensures .1
-      ∙ ap₂ (λ g d. minus (x a .contact) (times g d)) (front-gradients m _ e) (front-moves m _ e)
+      ∙ ap₂ (λ g d. minus (given a .x .contact) (times g d)) (front-gradients m _ e) (front-moves m _ e)
 
-  finger-is : c .new-finger .result ≡ record { height = x a .finger .older +ℤ δ a .finger; contact = x a .finger .contact +ℤ G a .finger *ℤ (at (δ a .points) (p (s a)) -ℤ δ a .finger) }
+  finger-is : c .new-finger .result ≡ record { height = given a .x .finger .older +ℤ δ a .finger; contact = given a .x .finger .contact +ℤ G a .finger *ℤ (at (δ a .points) (p (given a .s)) -ℤ δ a .finger) }
   finger-is = c .new-finger .ensures ∙ (λ i. record {
-    height = x a .finger .older +ℤ finger-move-is m i;
-    contact = x a .finger .contact +ℤ finger-gradient-is (d m) i *ℤ (delta-is m i -ℤ finger-move-is m i);
+    height = given a .x .finger .older +ℤ finger-move-is m i;
+    contact = given a .x .finger .contact +ℤ finger-gradient-is (d m) i *ℤ (delta-is m i -ℤ finger-move-is m i);
   })
 
 returns : tie.Need-returns
@@ -228,9 +218,9 @@ returns c = (
   contacts c .next-contact .ensures .0,
   λ i. record {
     newer = string-is c i;
-    older = x (a c) .newer;
+    older = given (a c) .x .newer;
     contact = contact-is c i;
-    finger = record { newer = finger-is c i .height; older = x (a c) .finger .newer; contact = finger-is c i .contact };
+    finger = record { newer = finger-is c i .height; older = given (a c) .x .finger .newer; contact = finger-is c i .contact };
   },
 )
 
