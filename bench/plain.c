@@ -174,7 +174,7 @@ sv_played PLAIN_BLOCK(sv_setup s, const int32_t *heights, size_t heights_length,
     sv_played b = {0, setup_refusal(s), turn, finger};
     if (b.refusal == 0 && lengths_wrong(s.segments - 1, heights_length, stiffness_length, first_length, second_length, contact_length))
         b.refusal = 6;
-    if (b.refusal == 0 && (forces_length % 2 == 1 || samples_length != forces_length))
+    if (b.refusal == 0 && (forces_length % 2 == 1 || samples_length < forces_length))
         b.refusal = 15;
     if (b.refusal == 0)
         b.refusal = state_refusal(s.segments - 1, heights, first, second, contact, finger);

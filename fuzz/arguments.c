@@ -287,15 +287,30 @@ static uint32_t draw_steps(uint32_t most)
     return one_in(3) ? draw_below(most + 1) : draw_below(few + 1);
 }
 
+/* How many samples lie behind those of the frames: none, a few, or a driver's buffer. */
+static size_t draw_surplus(void)
+{
+    size_t numbers[] = {0, 0, 1 + draw_below(4), draw_below(LONGEST / 4)};
+    return numbers[draw_below(4)];
+}
+
+/* An odd number of forces, or fewer samples. */
+static void change_counts(size_t *forces, size_t *samples)
+{
+    size_t even = *forces, fewer[] = {even - (even > 0), even - 2 * (even > 0), 0, draw_below((uint32_t)even + 1)};
+    int odd = one_in(2);
+    if (odd)
+        *forces = even > 0 && one_in(2) ? even - 1 : even + 1;
+    if (!odd || one_in(3))
+        *samples = fewer[draw_below(4)];
+}
+
 /* Samples hold any bits before the call, often those of some NaN. */
 void draw_forces(lent *forces, lent *samples, const sv_setup *setup, uint32_t most_steps, uint32_t greatest, unsigned changes)
 {
-    size_t number = 2 * (size_t)draw_steps(most_steps), of_samples = number;
-    if (changes & COUNTS) {
-        size_t numbers[] = {number + 1, number + 2, number - (number > 0), 0, draw_below(LONGEST / 4)};
-        of_samples = numbers[draw_below(5)];
-        number = one_in(2) ? number : numbers[draw_below(5)];
-    }
+    size_t number = 2 * (size_t)draw_steps(most_steps), of_samples = number + draw_surplus();
+    if (changes & COUNTS)
+        change_counts(&number, &of_samples);
     lent_place(forces, number);
     lent_place(samples, of_samples);
     int32_t *force = lent_numbers(forces);

@@ -18,6 +18,7 @@ function_tally functions[FUNCTIONS] = {
     {.name = "sv_newest", .refusals = 0},
     {.name = "sv_read_place", .refusals = OF_SETUP | OF_STATE},
 };
+surplus_tally surpluses;
 static function_tally *current;
 
 /* A second set of strings and contact variables, for steps that are made on a copy. */
@@ -263,9 +264,26 @@ static void step_by_step(voice *copy, const voice *v, const sv_played *played, c
         fault("the buffers after a block's single steps are not those after the block");
 }
 
+/* The samples past the last frame made must hold what they held before the call, where they fit a page. */
+static void same_behind(const float *before, const lent *samples, size_t count)
+{
+    const float *sample = lent_numbers(samples);
+    if (samples->length <= PAGE / sizeof *sample)
+        for (size_t i = 2 * count; i < samples->length; i++)
+            same_bits("a sample past the last frame made", &sample[i], &before[i], sizeof *sample);
+}
+
+static void count_surplus(size_t surplus, uint32_t refusal)
+{
+    *(surplus % 2 ? &surpluses.odd : &surpluses.even) += surplus > 0;
+    surpluses.stopped += surplus > 0 && refusal;
+}
+
 uint32_t call_play_block(voice *v, lent *forces, lent *samples)
 {
     voice copy = copied(v);
+    float before[PAGE / sizeof(float)];
+    memcpy(before, samples->page, PAGE);
     begin(PLAY_BLOCK, v->setup);
     sv_played answered = block_by(sv_play_block, LIBRARY, v, forces, samples), expected = block_by(plain_block, ORACLE, v, forces, samples);
     same_refusal(answered.refusal, expected.refusal);
@@ -275,9 +293,12 @@ uint32_t call_play_block(voice *v, lent *forces, lent *samples)
     voice_agrees(v);
     lent_agree(forces);
     lent_agree(samples);
+    same_behind((float *)((unsigned char *)before + samples->start), samples, answered.count);
     v->turn = answered.turn;
     v->finger = answered.finger;
-    if (answered.refusal == 0 || answered.refusal == 12 || answered.refusal == 13 || answered.refusal == 14)
+    if (answered.refusal == 0 || answered.refusal == 12 || answered.refusal == 13 || answered.refusal == 14) {
+        count_surplus(samples->length - forces->length, answered.refusal);
         step_by_step(&copy, v, &answered, forces, samples);
+    }
     return answered.refusal;
 }

@@ -13,6 +13,13 @@ typedef struct {
 } function_tally;
 extern function_tally functions[FUNCTIONS];
 
+/* Blocks that were begun with more samples than forces. */
+typedef struct {
+    unsigned long long odd, even; /* by how many samples more */
+    unsigned long long stopped;   /* those of both that a step's refusal stopped */
+} surplus_tally;
+extern surplus_tally surpluses;
+
 void calls_open(void);
 
 uint32_t call_check_setup(sv_setup setup);

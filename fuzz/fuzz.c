@@ -115,7 +115,8 @@ static void single_reading(void)
     call_read_place(&read, place);
 }
 
-/* In place of one buffer that is in order, one of 2^32 elements more: the lengths differ above their 32nd bit alone. */
+/* In place of one buffer that is in order, one of 2^32 elements more: the lengths differ above their 32nd bit alone. Of samples the lower 32 bits may be
+   too few, and the block is played all the same. */
 static void single_vast(void)
 {
     size_t points = draw_voice(0);
@@ -126,7 +127,7 @@ static void single_vast(void)
     lent *of_forces = &forces, *of_samples = &samples;
     lent **buffers[] = {&given.heights, &given.stiffness, &given.first, &given.second, &given.contact, &given_plan.board, &of_forces, &of_samples};
     lent **one = buffers[draw_below(8)];
-    vast.length = VAST + (*one)->length;
+    lent_place_vast(&vast, one == &of_samples ? draw_below((uint32_t)samples.length + 1) : (*one)->length);
     *one = &vast;
     sv_frame frame;
     switch (draw_below(5)) {
@@ -221,9 +222,10 @@ static void print_table(void)
     printf("of these on the neck %llu, under the finger %llu, with a residual at its limit %llu, with loss %llu, with work %llu\n", balanced.on_neck,
            balanced.under_finger, balanced.at_limit, balanced.lossy, balanced.worked);
     printf("bounds met to the unit: of 13 %llu, of 14 %llu\n", bounds_met[13], bounds_met[14]);
+    printf("blocks begun with a surplus of samples: odd %llu, even %llu; stopped by a step's refusal %llu\n", surpluses.odd, surpluses.even, surpluses.stopped);
 }
 
-/* Whether each function was accepted, and gave each of its refusals. */
+/* Whether each function was accepted, and gave each of its refusals, and a block had each kind of surplus. */
 static int all_met(void)
 {
     int all = 1;
@@ -233,6 +235,10 @@ static int all_met(void)
                 printf("fuzz: %s: %s %d was never met\n", functions[f].name, refusal ? "refusal" : "answer", refusal);
                 all = 0;
             }
+    if (surpluses.odd == 0 || surpluses.even == 0 || surpluses.stopped == 0) {
+        printf("fuzz: sv_play_block: a surplus of samples was never met\n");
+        all = 0;
+    }
     return all;
 }
 

@@ -58,14 +58,27 @@ void lent_open(lent *buffer, const char *name, size_t element)
     enter(buffer);
 }
 
-/* Nothing of it is ever in memory: it is read as zeros, and cannot be written. */
-void lent_open_vast(lent *buffer, const char *name)
+/* 2^32 elements and a page more, at a new address. Its first page can be written; the rest is never in memory, and is read as zeros. */
+static unsigned char *vast_pages(void)
 {
     unsigned char *page = mmap(NULL, VAST * sizeof(int32_t) + PAGE, PROT_READ, MAP_PRIVATE | MAP_ANONYMOUS | MAP_NORESERVE, -1, 0);
-    if (page == MAP_FAILED)
+    if (page == MAP_FAILED || mprotect(page, PAGE, PROT_READ | PROT_WRITE))
         give_up("a vast buffer");
-    *buffer = (lent){name, sizeof(int32_t), 0, VAST, page, page, page};
+    return page;
+}
+
+void lent_open_vast(lent *buffer, const char *name)
+{
+    unsigned char *page = vast_pages();
+    *buffer = (lent){name, sizeof(int32_t), 0, VAST, page, page, vast_pages()};
     enter(buffer);
+}
+
+void lent_place_vast(lent *buffer, size_t length)
+{
+    memset(buffer->page, 0, PAGE);
+    lent_settle(buffer);
+    buffer->length = VAST + length;
 }
 
 /* Without elements it lies at the end, where the first byte already is the guard's. */

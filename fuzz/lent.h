@@ -18,8 +18,9 @@ typedef struct {
 } lent;
 
 void lent_open(lent *buffer, const char *name, size_t element);
-void lent_open_vast(lent *buffer, const char *name); /* 2^32 elements and up to 1024 more, all zero, the same for the library and the oracle */
+void lent_open_vast(lent *buffer, const char *name); /* 2^32 elements and up to 1024 more; what lies past the first page cannot be written */
 void lent_place(lent *buffer, size_t length);        /* a buffer of so many elements, which hold the pattern */
+void lent_place_vast(lent *buffer, size_t length);   /* a vast buffer of 2^32 elements and so many more, all zero, and settled */
 void lent_settle(lent *buffer);                      /* what the library's page holds, the oracle's shall hold too */
 void lent_copy(lent *to, const lent *from);          /* placed and filled alike, and settled */
 void lent_agree(const lent *buffer);                 /* a fault unless both pages hold the same, pattern included */

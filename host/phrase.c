@@ -26,7 +26,7 @@ typedef struct {
 
 /* What is kept of the phrase. */
 typedef struct {
-    float samples[2 * FRAMES];
+    float samples[2 * BLOCK * BLOCKS]; /* as the driver took them: FRAMES frames, then silence */
     double energy[BLOCKS];    /* joules, after each block */
     uint32_t touched[BLOCKS]; /* frets touched in each block: bit i - 1 for fret i */
     int32_t largest;          /* displacement after a block */
@@ -41,6 +41,9 @@ static double now(void)
 }
 
 static double start_of_block(size_t block) { return (double)(block * BLOCK) / RATE; }
+
+/* The last block of the phrase is shorter. */
+static size_t steps_of_block(size_t block) { return block + 1 < BLOCKS ? BLOCK : FRAMES - BLOCK * block; }
 
 static void lay_neck(voice *v)
 {
@@ -94,20 +97,24 @@ static void keep(const voice *v, take *t, size_t block, const int32_t contact_be
             t->largest = abs(newer[i]);
 }
 
-static void play_block(voice *v, take *t, size_t block)
+/* The driver's buffer is lent whole, also for the shorter block; what lies past its last frame is silenced here, since it keeps its contents. */
+static void play_block(voice *v, take *t, size_t block, float driver[2 * BLOCK])
 {
     double seconds = start_of_block(block);
     const note *n = note_at(seconds);
+    size_t steps = steps_of_block(block);
     int32_t forces[2 * BLOCK], contact_before[POINTS];
     prepare(v, n, seconds);
-    player_forces(n, seconds, v->finger, forces);
+    player_forces(n, seconds, v->finger, steps, forces);
     memcpy(contact_before, v->contact, sizeof contact_before);
     double start = now();
     sv_played p = sv_play_block(v->setup, v->heights, POINTS, v->stiffness, POINTS, v->first, POINTS, v->second, POINTS, v->contact, POINTS, v->turn, v->finger,
-                                forces, 2 * BLOCK, t->samples + 2 * BLOCK * block, 2 * BLOCK);
+                                forces, 2 * steps, driver, 2 * BLOCK);
     t->inside += now() - start;
     if (p.refusal)
         refused("sv_play_block", p.refusal, seconds + (double)p.count / RATE);
+    memset(driver + 2 * p.count, 0, sizeof(float[2]) * (BLOCK - p.count));
+    memcpy(t->samples + 2 * BLOCK * block, driver, sizeof(float[2 * BLOCK]));
     v->turn = p.turn;
     v->finger = p.finger;
     keep(v, t, block, contact_before);
@@ -197,13 +204,14 @@ int main(int count, char **words)
 {
     static voice v;
     static take t;
+    static float driver[2 * BLOCK];
     if (count != 3) {
         fprintf(stderr, "usage: phrase SOUND.wav PICTURE.svg\n");
         return 2;
     }
     lay_neck(&v);
     for (size_t block = 0; block < BLOCKS; block++) {
-        play_block(&v, &t, block);
+        play_block(&v, &t, block, driver);
         progress(block);
     }
     report(&t);

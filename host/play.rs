@@ -79,20 +79,22 @@ fn main() {
     accepted("sv_fresh_start", started.refusal, 0);
 
     let (mut turn, mut finger, mut made, mut loudest) = (started.turn, started.finger, 0, 0f32);
+    let mut driver = [0f32; 2 * BLOCK]; // lent whole, also for the last block, which is shorter
     while made < 44_100 {
         let steps = BLOCK.min(44_100 - made);
-        let (mut forces, mut samples) = ([0; 2 * BLOCK], [0f32; 2 * BLOCK]);
+        let mut forces = [0; 2 * BLOCK];
         for j in 0..steps {
             forces[2 * j] = if made + j < 200 { 80_000 * (made + j) as i32 } else { 0 }; // pulled harder for 200 steps, then let go
         }
         let played = unsafe {
             sv_play_block(setup, heights.as_ptr(), POINTS, stiffness.as_ptr(), POINTS, first.as_mut_ptr(), POINTS, second.as_mut_ptr(), POINTS,
-                          contact.as_mut_ptr(), POINTS, turn, finger, forces.as_ptr(), 2 * steps, samples.as_mut_ptr(), 2 * steps)
+                          contact.as_mut_ptr(), POINTS, turn, finger, forces.as_ptr(), 2 * steps, driver.as_mut_ptr(), driver.len())
         };
         made += played.count;
         accepted("sv_play_block", played.refusal, made);
         (turn, finger) = (played.turn, played.finger);
-        loudest = samples.iter().step_by(2).fold(loudest, |most, sample| most.max(sample.abs()));
+        driver[2 * played.count..].fill(0.0); // samples past the last frame made keep their contents
+        loudest = driver.iter().step_by(2).fold(loudest, |most, sample| most.max(sample.abs()));
     }
     println!("{made} steps in blocks of {BLOCK}, loudest sample of the bridge pickup {loudest:.4}");
 }

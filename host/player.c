@@ -71,10 +71,10 @@ static double finger_aim(const note *n, double seconds)
 
 /* The finger is led as by a spring and a damper, since the scheme's finger has no loss of its own. The aim moves with every step; height and speed are those
    before the block. */
-void player_forces(const note *n, double seconds, sv_finger finger, int32_t forces[2 * BLOCK])
+void player_forces(const note *n, double seconds, sv_finger finger, size_t steps, int32_t *forces)
 {
     double height = metres_of_units(finger.newer), speed = metres_of_units((double)finger.newer - finger.older) * RATE;
-    for (int j = 0; j < BLOCK; j++) {
+    for (size_t j = 0; j < steps; j++) {
         double at = seconds + (double)j / RATE;
         forces[2 * j] = units_of_newtons(pluck_force(n, at));
         forces[2 * j + 1] = units_of_newtons(SPRING * (finger_aim(n, at) - height) - DAMPER * speed);

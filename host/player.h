@@ -4,7 +4,7 @@
 
 #include "instrument.h"
 
-enum { BLOCK = 64, BLOCKS = 14 * RATE / BLOCK, FRAMES = BLOCKS * BLOCK, NOTES = 9 };
+enum { BLOCK = 64, FRAMES = 14 * RATE, BLOCKS = (FRAMES + BLOCK - 1) / BLOCK, NOTES = 9 };
 
 #define PHRASE ((double)FRAMES / RATE) /* how long it is, s */
 
@@ -31,8 +31,8 @@ sv_setup player_setup(const note *n, double seconds);
 /* Where the finger is at a note's fresh start. */
 int32_t player_finger_height(void);
 
-/* The forces of a block that begins at a time, with the finger as it is then: of each step the pluck force, then the finger force. */
-void player_forces(const note *n, double seconds, sv_finger finger, int32_t forces[2 * BLOCK]);
+/* The forces of so many steps, from a time on, with the finger as it is then: of each step the pluck force, then the finger force. */
+void player_forces(const note *n, double seconds, sv_finger finger, size_t steps, int32_t *forces);
 
 /* How far the fader is open, 1 to 0: it is drawn down once the hand has silenced a note. */
 double player_fader(const note *n, double seconds);

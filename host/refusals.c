@@ -19,7 +19,7 @@ static const char *const meanings[] = {
     "a force is out of range",
     "the step would move string or finger out of range: pluck or press with less force",
     "the step would drive a contact variable out of range: pluck or press with less force",
-    "the forces are not two for each step, or there are not as many samples as forces",
+    "the forces are not two for each step, or there are fewer samples than forces",
 };
 
 void refused(const char *call, uint32_t number, double seconds)

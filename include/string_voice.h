@@ -99,8 +99,9 @@ typedef struct {
     sv_finger finger; /* after the steps made */
 } sv_played;
 
-/* A block of n steps, until the forces end or a step is refused: the steps made stand. Each accepted step writes its frame; the samples of the
-   refused step and all later ones are as they were. A refusal of the block itself (1 to 5, 6, 15, 7 or 11) leaves every buffer as it was. */
+/* A block of n steps, until the forces end or a step is refused: the steps made stand. Each accepted step writes its frame; the samples past the
+   last frame made, 2 * count of them on, are as they were. So a driver's buffer of a fixed length may be lent whole for fewer steps, as for the last
+   block of a song; the caller silences the rest of it. A refusal of the block itself (1 to 5, 6, 15, 7 or 11) leaves every buffer as it was. */
 sv_played sv_play_block(sv_setup setup,
                         const int32_t *heights, size_t heights_length, /* to finger: as for a step */
                         const uint16_t *stiffness, size_t stiffness_length,
@@ -109,7 +110,7 @@ sv_played sv_play_block(sv_setup setup,
                         int32_t *contact, size_t contact_length,
                         uint32_t turn, sv_finger finger,
                         const int32_t *forces, size_t forces_length, /* 2n forces: of each step the pluck force, then the finger force */
-                        float *samples, size_t samples_length);      /* 2n samples: of each step the bridge, then the neck */
+                        float *samples, size_t samples_length);      /* at least 2n samples: of each step the bridge, then the neck */
 
 /* Which buffer holds the newest string: 0 the first, at turn 0; 1 the second, at any other number. */
 uint32_t sv_newest(uint32_t turn);

@@ -141,7 +141,8 @@ ROWS = {
     "block": SETUP_ROWS
     + [
         lengths(*STEP_BUFFERS),
-        (15, [cut("forces"), cut("samples"), longer("samples"), both(longer("forces"), longer("samples")), give("forces"), give("samples")]),
+        (15, [cut("forces"), longer("forces"), both(longer("forces"), longer("samples")), both(cut("forces"), cut("samples")), give("forces", 90000)]),
+        (15, [cut("samples"), give("samples", *([7] * 4)), give("samples", 7), give("samples")]),
         HEIGHTS_ROW,
         STATE_ROW,
     ]
@@ -202,7 +203,10 @@ ACCEPTED = {
     "step": STEP_ON,
     "block": [both(give("forces", 90000, -70000), give("samples", 7, 7), change) for change in STEP_ON]
     + [both(give("forces"), give("samples"), give("turn", n)) for n in (0, 1, 7)]
-    + [both(give("forces", *([0] * 64)), give("samples", *([7] * 64)))],
+    + [both(give("forces", *([0] * 64)), give("samples", *([7] * 64)))]
+    + [give("samples", *range(7, 7 + n)) for n in (7, 8, 128)]
+    + [both(give("forces", 90000, -70000), give("samples", *range(7, 7 + n)), give("turn", turn)) for n in (3, 4, 9) for turn in (0, 1)]
+    + [both(give("forces"), give("samples", *range(7, 7 + n))) for n in (1, 2, 128)],
     "newest": [give("turn", n) for n in (0, 1, 2, U32)]
     + [both(give("turn", n), cut("first")) for n in (0, 1)]
     + [both(give("turn", n), give("second")) for n in (0, 1)],
@@ -276,7 +280,7 @@ BOUNDARIES = [
     *((number, pressing(phi, -32 + 16 * phi, -4032 - 16 * phi)) for phi, number in ((-67_108_856, 0), (-67_108_857, 14))),
 ]
 
-# the first step of a block is made, the second is refused: 12, 13, 14
+# the first step of a block is made, the second is refused: 12, 13, 14; with as many samples as forces, and with more
 LATER = [
     (12, give("forces", 5, 6, 1_073_741_825, 0, 0, 0)),
     (12, give("forces", 5, 6, 0, -1_073_741_825, 0, 0)),
@@ -306,6 +310,10 @@ def all_calls():
         yield "boundary of 13 and 14", number, call
     for number, *changes in LATER:
         yield f"block: {number} at a later step", number, Call("block", both(*changes)(GOOD["block"]))
+    for number, *changes in LATER:
+        for samples in (7, 16):
+            call = both(*changes, give("samples", *range(7, 7 + samples)))(GOOD["block"])
+            yield f"block: {number} at a later step, with a surplus of samples", number, Call("block", call)
 
 
 def main(crates):

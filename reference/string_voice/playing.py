@@ -1,4 +1,4 @@
-"""01, 'Playing a block, reading a place', and the newest string."""
+"""01, 'Playing a block, reading a place', with 02's item 1, and the newest string."""
 
 from dataclasses import dataclass
 from fractions import Fraction
@@ -18,11 +18,12 @@ class Played:
 
 
 def play_block(setup, heights, stiffness, first, second, contact, turn, finger, forces, samples):
-    """Makes steps until the forces end or a step is refused. A block that is itself refused answers count 0."""
+    """Makes steps until the forces end or a step is refused. Samples past the last frame made keep their contents. A block that is itself refused answers count 0."""
     try:
         check_setup(setup)
         check_lengths(setup, heights, stiffness, first, second, contact)
-        refuse(15, len(forces) % 2 == 1 or len(samples) != len(forces))
+        refuse(15, len(forces) % 2 == 1)
+        refuse(15, len(samples) < len(forces))
         check_heights(heights)
         check_state(first, second, contact, finger)
     except Refused as refused:

@@ -16,11 +16,11 @@ use model::Setup;
 use step::arguments::buffers_refusal;
 use step::arguments::state_refusal;
 
-// 15: an odd number of forces, or another number of samples than of forces.
+// 15: an odd number of forces, or fewer samples than forces.
 fn counts_wrong(forces: usize, samples: usize) -> bool
     ensures { λ r. ⌜ r ≡ countsWrong forces samples ⌝ }
 {
-    (forces % 2 == 1) | (samples != forces)
+    (forces % 2 == 1) | (samples < forces)
 }
 
 // The refusal of a block, or 0, whatever the turn.
@@ -50,7 +50,7 @@ fn block_refusal(
 }
 
 // Plays a block: makes steps until the forces, pluck and finger in turn, end or a step is refused, and writes each accepted step's frame, bridge
-// first. Answers the number of steps made, the refusal that stopped it (0 if none did), and the turn and finger after them.
+// first. The samples past the last frame made keep their contents. Answers the number of steps made, the refusal that stopped it (0 if none did), and the turn and finger after them.
 pub fn play_block(
     setup: Setup,
     heights: &[i32],

@@ -1,5 +1,6 @@
 // 01, 'Playing a block': the steps of a block whose arguments are examined.
 ghost use mathlib.Core.Path.{_≡_};
+ghost use Prim.Native.Nat.{_≤_};
 ghost use lib.ListN.{length};
 ghost use Rattle.contact.specs.Table.{rootTable};
 ghost use Rattle.laws.specs.Ready.{Ready};
@@ -32,7 +33,7 @@ pub fn play(
 ) -> BlockAnswer
     requires { ⌜ (now roots ≡ rootTable) × Ready setup (record { heights = now heights; stiffness = now stiffness })
         (stateOf (record { first = now first; second = now second; contact = now contact; turn = turn; finger = finger }))
-        × (length (now samples) ≡ length (now forces)) ⌝ }
+        × (length (now forces) ≤ length (now samples)) ⌝ }
     ensures { λ r. ⌜ blockResult r (now (first .exit)) (now (second .exit)) (now (contact .exit)) (now (samples .exit)) ≡ Blocks.play setup
         (record { heights = now (heights .entry); stiffness = now (stiffness .entry) })
         (record { first = now (first .entry); second = now (second .entry); contact = now (contact .entry); turn = turn; finger = finger })

@@ -1,15 +1,14 @@
 -- A block plays: its steps are those of a run, its count theirs and the turn's flips, and it stops early only with 12, 13 or 14.
 use mathlib.Core.Path.{_≡_, refl, _∙_, ap}
-use mathlib.Core.Bool.{not}
 use mathlib.Core.List.{List, [], _∷_, _++_}
-use Prim.Native.Nat.{ℕ, suc, _+_, _*_, _%_}
-use lib.Dec.{eqb}
+use Prim.Native.Nat.{ℕ, suc, _+_, _*_, _%_, _≤_}
+use lib.Dec.{eqb, ltb}
 use lib.IntN.{ℤ}
 use lib.Ieee.{Float}
 use native.Mathlib.Omega.{arith}
 use lib.ListN.{length, drop}
 use lib.Seq.{drop-drop}
-use mir.Facts.{or-no, T-not-not, eqb-yes}
+use mir.Facts.{or-no, ltb-no}
 use Rattle.model.specs.Refusal.{firstOf, unless, Answer, accepted, refused}
 use Rattle.model.specs.Setup.{setupRules}
 use Rattle.model.specs.State.{Lent, stateOf, Neck, Forces}
@@ -59,7 +58,7 @@ module _ (s : Setup) (neck : Neck) where
         stops = (q, ready-refused s neck v F h n q);
       }
 
--- a block that passed its own table is ready, and has a sample for each force
+-- a block that passed its own table is ready, and has at least a sample for each force
 module _ (s : Setup) (neck : Neck) (v : Lent) (forces : List ℤ) (samples : List Float) where
   ready : Passed (blockRules s neck v forces samples) → Ready s neck (stateOf v)
   unfolding blockRules setupRules
@@ -67,13 +66,13 @@ module _ (s : Setup) (neck : Neck) (v : Lent) (forces : List ℤ) (samples : Lis
       let rules = blockRules s neck v forces samples in
       record { setup = passed-append (setupRules s) (drop 5 rules) h .0; buffers = (fails 6 rules h, tt); heights = (fails 7 rules h, tt); state = (fails 11 rules h, tt) }
 
-  pub block-ready : firstOf (blockRules s neck v forces samples) ≡ 0 → Ready s neck (stateOf v) × (length samples ≡ length forces)
+  pub block-ready : firstOf (blockRules s neck v forces samples) ≡ 0 → Ready s neck (stateOf v) × (length forces ≤ length samples)
   unfolding blockRules setupRules
   block-ready e =
       let rules = blockRules s neck v forces samples in
       let h = passed rules tt e in
-      let same = or-no (eqb (length forces % 2) 1) (not (eqb (length samples) (length forces))) (fails 15 rules h) .1 in
-      (ready h, eqb-yes (T-not-not (eqb (length samples) (length forces)) same))
+      let enough = or-no (eqb (length forces % 2) 1) (ltb (length samples) (length forces)) (fails 15 rules h) .1 in
+      (ready h, ltb-no enough)
 
 -- a block by what its table gave
 by-number : (s : Setup) (neck : Neck) (v : Lent) (forces : List ℤ) (samples : List Float) (n : ℕ) → IsFirst (blockRules s neck v forces samples) n

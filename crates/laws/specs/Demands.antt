@@ -12,7 +12,7 @@ use Rattle.model.specs.Block.{blockRules}
 use Rattle.model.specs.Reading.{readingRules}
 use Rattle.model.specs.declared.Setup.{Setup}
 use Rattle.promises.specs.Promises as promise
-use Rattle.promises.specs.Promises.{Demand1, Accepts, Demand2, Runs, Demand3, Blocks, Frames, Readings, Rounding, Refuses, Leaves}
+use Rattle.promises.specs.Promises.{Demand1, Accepts, Demand2, Runs, Demand3, Blocks, LongerSamples, Frames, Readings, Rounding, Refuses, Leaves}
 use Rattle.laws.specs.Refusals.{first-unique, by-table}
 use Rattle.laws.specs.Nearest.{nearest-is, unique}
 use Rattle.laws.specs.Accepted as Accepted
@@ -21,6 +21,7 @@ use Rattle.laws.specs.Solved as Solved
 use Rattle.laws.specs.Run.{run}
 use Rattle.laws.specs.Exact as Exact
 use Rattle.laws.specs.Block as Block
+use Rattle.laws.specs.LongerSamples as Longer
 
 -- every refusal is the first whose condition holds, and leaves what was lent
 pub demand1 : Demand1
@@ -57,6 +58,9 @@ demand3 s _ t _ _ plan heights stiffness neck _ first second contact w w' v h Fs
 
 pub blocks : Blocks
 blocks = Block.blocks
+
+pub longer-samples : LongerSamples
+longer-samples = Longer.longer-samples
 
 pub frames : Frames
 frames = Exact.frames

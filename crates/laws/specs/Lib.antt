@@ -18,6 +18,7 @@ pub mod Ready
 pub mod Call
 pub mod Advance
 pub mod Block
+pub mod LongerSamples
 pub mod Playing
 pub mod Exact
 pub mod Demands

@@ -1,8 +1,8 @@
--- 01, 'Playing a block', and a block's refusals.
-use mathlib.Core.Bool.{Bool, _||_, not}
+-- 01, 'Playing a block', and a block's refusals, with longer sample buffers by 02's item 1.
+use mathlib.Core.Bool.{Bool, _||_}
 use mathlib.Core.List.{List, [], _∷_, _++_}
 use Prim.Native.Nat.{ℕ, suc, _%_}
-use lib.Dec.{eqb}
+use lib.Dec.{eqb, ltb}
 use lib.IntN.{ℤ}
 use lib.Ieee.{Float}
 use lib.ListN.{length, drop}
@@ -20,9 +20,9 @@ pairs [] = []
 pairs (f ∷ []) = []
 pairs (f ∷ g ∷ fs) = record { pluck = f; finger = g } ∷ pairs fs
 
--- 15: an odd number of forces, or another number of samples than of forces
+-- 15 (02, item 1): an odd number of forces, or too few samples, fewer than forces
 abbrev pub countsWrong : (forces samples : ℕ) → Bool
-countsWrong forces samples = eqb (forces % 2) 1 || not (eqb samples forces)
+countsWrong forces samples = eqb (forces % 2) 1 || ltb samples forces
 
 -- the number of steps made, the refusal that stopped them (0 if none did), and what the lent buffers, turn, finger and samples then are
 pub record BlockResult : Type 0 where
@@ -40,7 +40,7 @@ abbrev pub stepMade : Frame → BlockResult → BlockResult
 stepMade f b = record { count = suc (b .count); refusal = b .refusal; lent = b .lent; samples = f .bridge ∷ f .neck ∷ b .samples }
 
 module _ (s : Setup) (neck : Neck) where
-  -- steps until the forces end or one is refused; each frame is written in turn
+  -- steps until the forces end or one is refused; each frame is written in turn, and samples past the last frame made keep their contents
   unfoldable pub play : Lent → List Forces → List Float → BlockResult
   play v [] samples = stopped v samples 0
   play v (F ∷ Fs) samples =

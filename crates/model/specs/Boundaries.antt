@@ -191,7 +191,9 @@ blockOf f z h u = firstOf (blockRules (benchSetup 1 0 0 0 0) (record { heights =
 blockRows : List (Line ℕ)
 blockRows =
     blockOf 0 0 (pos 0) (pos 0) gives 0 ∷ blockOf 2 2 (pos 0) (pos 0) gives 0 ∷ blockOf 1 1 (pos 0) (pos 0) gives 15
-    ∷ blockOf 2 1 (pos 0) (pos 0) gives 15 ∷ blockOf 2 3 (pos 0) (pos 0) gives 15
+    -- too few samples, then a surplus, odd and even; an odd number of forces with enough samples
+    ∷ blockOf 2 0 (pos 0) (pos 0) gives 15 ∷ blockOf 2 1 (pos 0) (pos 0) gives 15 ∷ blockOf 2 3 (pos 0) (pos 0) gives 0
+    ∷ blockOf 2 8 (pos 0) (pos 0) gives 0 ∷ blockOf 0 1 (pos 0) (pos 0) gives 0 ∷ blockOf 3 4 (pos 0) (pos 0) gives 15
     ∷ blockOf 1 1 (pos 1) (pos 0) gives 15 ∷ blockOf 0 0 (pos 1) (pos 1048577) gives 7 ∷ blockOf 0 0 (pos 0) (pos 1048577) gives 11
     ∷ []
 

@@ -87,13 +87,13 @@ unfolding lent lent₂ over block blockRules play step stepRules callRules resul
     rounded₂ nearest floor plus minus times zipWith D1
 played-is = refl
 
--- a block whose forces end
-ended-is : block workedSetup workedNeck lent (pos 12345 ∷ negℤ (pos 6789) ∷ []) (replicate 2 nan)
+-- a block whose forces end, in a longer sample buffer
+ended-is : block workedSetup workedNeck lent (pos 12345 ∷ negℤ (pos 6789) ∷ []) (replicate 5 nan)
     ≡ record {
       count = 1;
       refusal = 0;
       lent = record { first = stateAfter .newer; second = before .newer; contact = stateAfter .contact; turn = 0; finger = stateAfter .finger };
-      samples = fin true 11 (negsuc 18) ∷ over true 19 ∷ [];
+      samples = fin true 11 (negsuc 18) ∷ over true 19 ∷ replicate 3 nan;
     }
 unfolding lent lent₂ over block blockRules play step stepRules callRules resultRules setupRules placeOk lengthOk between inside heightOk
     displacementOk contactOk forceOk stateOf put workedStep nextState frame fraction round gradients gradient root greatest moves A c system rounded₁

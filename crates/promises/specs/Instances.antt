@@ -8,7 +8,7 @@ use native.Mathlib.Omega.{arith}
 use lib.Dec.{T, ltb, eqb, lit≤, lit<}
 use lib.IntN.{ℤ, pos, negsuc, negℤ, natAbs}
 use lib.Signed.{leZ-yes, ltZ-yes}
-use lib.Ieee.{nan, fin, round}
+use lib.Ieee.{Float, nan, fin, round}
 use lib.ListN.{replicate}
 use mir.Facts.{eqb-no}
 use Rattle.model.specs.Fraction.{fraction}
@@ -26,9 +26,10 @@ use Rattle.model.specs.State.{State, Lent, stateOf, put, Neck, Forces}
 use Rattle.model.specs.Step.{gradients, A, c, system, moves, workedStep, nextState, callRules, resultRules, stepRules, frame, step}
 use Rattle.model.specs.Energy.{storedEnergy, dotAll, loss, work, residuals, limits, roundingWork, roundingLimit}
 use Rattle.model.specs.Run.{Voice, voice, history, acceptedSteps, voiceAfter, sumOver}
+use Rattle.model.specs.Block.{BlockResult, play, blockRules, block}
 use Rattle.model.specs.Bench.{benchSetup, flatNeck, finger, restingFinger, onePoint, forces}
 use Rattle.model.specs.declared.Setup.{Setup}
-use Rattle.promises.specs.Promises.{Refuses, IsNearest, IsRounded, AreGradients, Solves, Run, flips, frameSamples, Plays, Shows, shown}
+use Rattle.promises.specs.Promises.{Refuses, IsNearest, IsRounded, AreGradients, Solves, Run, flips, frameSamples, Plays, followedBy, PlaysNoPart, Shows, shown}
 
 -- ---- rounding
 
@@ -141,7 +142,7 @@ benchVoice L M S Z K w' = record { setup = benchSetup L M S Z K; lent = onePoint
 none : Forces
 none = forces (pos 0) (pos 0)
 
-equal : {a b : ℤ} (n : ℤ) → a ≡ n → b ≡ n → a ≡ b
+equal : {B : Type 0} {a b : B} (n : B) → a ≡ n → b ≡ n → a ≡ b
 equal n p q = p ∙ sym q
 
 -- a force that is not 0
@@ -192,16 +193,30 @@ lent = record { first = x .newer; second = x .older; contact = x .contact; turn 
 abbrev two : List Forces
 two = forces (pos 5000) (pos 2000000) ∷ forces (pos 2000000000) (pos 0) ∷ []
 
-played : Plays threeNeck (voice three lent) two (replicate 4 nan) record {
+-- what a block of them comes to
+abbrev made : BlockResult
+made = record {
   count = 1;
   refusal = 12;
   lent = record { first = x .newer; second = y .newer; contact = y .contact; turn = 1; finger = y .finger };
   samples = fin true 11 (negsuc 18) ∷ fin false 11 (negsuc 15) ∷ replicate 2 nan;
 }
+
+played : Plays threeNeck (voice three lent) two (replicate 4 nan) made
 unfolding history voiceAfter acceptedSteps flips frameSamples stateOf put step stepRules callRules resultRules setupRules placeOk lengthOk between
     inside heightOk displacementOk contactOk forceOk workedStep gradients gradient root greatest moves A c system rounded₁ rounded₂ nearest floor
     nextState frame fraction round plus minus times zipWith D1
 played = record { calls = history threeNeck (voice three lent) (forces (pos 5000) (pos 2000000) ∷ []); run = refl; count = refl; turn = refl; lent = refl; samples = refl; stops = (refl, inl refl) }
+
+-- the same block in a sample buffer that is longer by an odd number
+abbrev rest : List Float
+rest = fin false 7 (pos 0) ∷ fin true 7 (pos 0) ∷ nan ∷ []
+
+surplus : PlaysNoPart three threeNeck lent (pos 5000 ∷ pos 2000000 ∷ pos 2000000000 ∷ pos 0 ∷ []) (replicate 4 nan) rest
+unfolding block blockRules play stateOf put step stepRules callRules resultRules setupRules placeOk lengthOk between inside heightOk displacementOk
+    contactOk forceOk workedStep gradients gradient root greatest moves A c system rounded₁ rounded₂ nearest floor nextState frame fraction round plus
+    minus times zipWith D1
+surplus = equal (followedBy rest made) refl refl
 
 -- place 1 is pressed to the depth 25, place 2 is free
 pressed : Shows (shown (negℤ (pos 25)) (pos 25)) (readingResult (reading three (threeNeck .heights) (lent .first) (lent .second) 0 1))

@@ -1,10 +1,10 @@
--- What is promised of the model, as statements only, in document 01's terms. Crate `laws` proves each in its file Demands.
+-- What is promised of the model, as statements only, in the terms of documents 01 and 02. Crate `laws` proves each in its file Demands.
 use mathlib.Core.Path.{_≡_}
 use mathlib.Core.Bool.{true, not, cond}
 use mathlib.Core.Logic.{_≢_, _⊎_}
 use mathlib.Core.List.{List, [], _∷_, _++_}
-use Prim.Native.Nat.{ℕ, zero, suc, _*_, _/_, min, _≤_, _<_}
-use lib.Dec.{T}
+use Prim.Native.Nat.{ℕ, zero, suc, _*_, _/_, _%_, min, _≤_, _<_}
+use lib.Dec.{T, eqb}
 use lib.IntN.{ℤ, pos, natAbs, _+ℤ_, _-ℤ_, _*ℤ_}
 use lib.Signed.{_≤ℤ_, _<ℤ_, ltZ}
 use lib.Ieee.{Float}
@@ -22,7 +22,7 @@ use Rattle.model.specs.Step.{A, c, system, gradients, WorkedStep, stepRules, st
 use Rattle.model.specs.Energy.{loss, work, residuals, limits, roundingWork, roundingLimit}
 use Rattle.model.specs.Run.{Voice, voice, energyOf, Call, history, acceptedSteps, voiceAfter, sumOver}
 use Rattle.model.specs.Fraction.{Holds}
-use Rattle.model.specs.Block.{pairs, BlockResult, stopped, blockRules, block}
+use Rattle.model.specs.Block.{pairs, countsWrong, BlockResult, stopped, blockRules, block}
 use Rattle.model.specs.Reading.{readingRules, reading}
 use Rattle.model.specs.Answers.{readingResult}
 use Rattle.model.specs.declared.Setup.{Setup}
@@ -239,6 +239,22 @@ pub record Blocks : Type 0 where
   -- where a number is given, nothing is written and the count is 0
   pub turned-down : (s : Setup) (neck : Neck) (v : Lent) (forces : List ℤ) (samples : List Float) (n : ℕ) → IsFirst (blockRules s neck v forces samples) (suc n)
       → block s neck v forces samples ≡ stopped v samples (suc n)
+
+-- ---- 02, item 1: longer sample buffers
+
+-- the result b, its samples followed by `rest`
+abbrev pub followedBy : List Float → BlockResult → BlockResult
+followedBy rest b = record { count = b .count; refusal = b .refusal; lent = b .lent; samples = b .samples ++ rest }
+
+-- a block over `samples ++ rest` is the block over `samples`, and `rest` keeps its contents
+abbrev pub PlaysNoPart : Setup → Neck → Lent → List ℤ → (samples rest : List Float) → Type 0
+PlaysNoPart s neck v forces samples rest = block s neck v forces (samples ++ rest) ≡ followedBy rest (block s neck v forces samples)
+
+pub record LongerSamples : Type 0 where
+  -- a surplus plays no part: whatever lies behind two samples for each frame of the forces
+  pub surplus : (s : Setup) (neck : Neck) (v : Lent) (forces : List ℤ) (samples rest : List Float) → length samples ≡ 2 * length (pairs forces) → PlaysNoPart s neck v forces samples rest
+  -- with as many samples as forces 15 is given for an odd number alone, as 01 has it: so blocks accepted earlier give the same results
+  pub earlier : (forces : ℕ) → countsWrong forces forces ≡ eqb (forces % 2) 1
 
 -- ---- frames and readings lose nothing
 

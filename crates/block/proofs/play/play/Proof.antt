@@ -28,7 +28,7 @@ record Playing (s : Setup) (neck : Neck) (forces : List ℤ) (v₀ : Lent) (samp
   second : length (v .second) ≡ length (v₀ .second)
   contact : length (v .contact) ≡ length (v₀ .contact)
   written : length samples ≡ length samples₀
-  room : length samples ≡ length forces
+  room : length forces ≤ length samples
   rest : resumed s neck forces v samples n ≡ Blocks.play s neck v₀ (pairs forces) samples₀
 
 abbrev Inv-loop : tie.InvT-loop
@@ -140,7 +140,7 @@ loop-again c =
       second = search needs;
       contact = search needs;
       written = same-length w ∙ inv .written;
-      room = same-length w ∙ inv .room;
+      room = let same = same-length w in omega (arith, same, inv .room);
       rest = ap (λ samples. resumed (s (l (d w))) (neck (l (d w))) (forces (l (d w))) (lentWith (stepped .0 .turn) (stepped .0 .finger) (first (d w)) (second (d w)) (contact (d w))) samples (l (d w) .loop .count + 1)) (w .write-frame .ensures)
           ∙ sym (made-next (more (d w)) (stepped .0) is (samples w) (room w)) ∙ inv .rest;
     }
