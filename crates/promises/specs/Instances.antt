@@ -29,7 +29,7 @@ use Rattle.model.specs.Run.{Voice, voice, history, acceptedSteps, voiceAfter, s
 use Rattle.model.specs.Block.{BlockResult, play, blockRules, block}
 use Rattle.model.specs.Bench.{benchSetup, flatNeck, finger, restingFinger, onePoint, forces}
 use Rattle.model.specs.declared.Setup.{Setup}
-use Rattle.promises.specs.Promises.{Refuses, IsNearest, IsRounded, AreGradients, Solves, Run, flips, frameSamples, Plays, followedBy, PlaysNoPart, Shows, shown}
+use Rattle.promises.specs.Promises.{Refuses, IsNearest, IsRounded, AreGradients, Solves, Run, flips, frameSamples, Plays, followedBy, PlaysNoPart, OddAlone, Shows, shown}
 
 -- ---- rounding
 
@@ -217,6 +217,10 @@ unfolding block blockRules play stateOf put step stepRules callRules resultRules
     contactOk forceOk workedStep gradients gradient root greatest moves A c system rounded₁ rounded₂ nearest floor nextState frame fraction round plus
     minus times zipWith D1
 surplus = equal (followedBy rest made) refl refl
+
+-- three samples for three forces, and four for four
+odd-alone : OddAlone 3 × OddAlone 4
+odd-alone = (refl, refl)
 
 -- place 1 is pressed to the depth 25, place 2 is free
 pressed : Shows (shown (negℤ (pos 25)) (pos 25)) (readingResult (reading three (threeNeck .heights) (lent .first) (lent .second) 0 1))

@@ -250,11 +250,15 @@ followedBy rest b = record { count = b .count; refusal = b .refusal; lent = b .l
 abbrev pub PlaysNoPart : Setup → Neck → Lent → List ℤ → (samples rest : List Float) → Type 0
 PlaysNoPart s neck v forces samples rest = block s neck v forces (samples ++ rest) ≡ followedBy rest (block s neck v forces samples)
 
+-- with as many samples as forces 15 is given for an odd number alone, as 01 has it
+abbrev pub OddAlone : ℕ → Type 0
+OddAlone forces = countsWrong forces forces ≡ eqb (forces % 2) 1
+
 pub record LongerSamples : Type 0 where
   -- a surplus plays no part: whatever lies behind two samples for each frame of the forces
   pub surplus : (s : Setup) (neck : Neck) (v : Lent) (forces : List ℤ) (samples rest : List Float) → length samples ≡ 2 * length (pairs forces) → PlaysNoPart s neck v forces samples rest
-  -- with as many samples as forces 15 is given for an odd number alone, as 01 has it: so blocks accepted earlier give the same results
-  pub earlier : (forces : ℕ) → countsWrong forces forces ≡ eqb (forces % 2) 1
+  -- so blocks accepted earlier, which had as many samples as forces, give the same results
+  pub earlier : (forces : ℕ) → OddAlone forces
 
 -- ---- frames and readings lose nothing
 
