@@ -275,8 +275,9 @@ static void same_behind(const float *before, const lent *samples, size_t count)
 
 static void count_surplus(size_t surplus, uint32_t refusal)
 {
-    *(surplus % 2 ? &surpluses.odd : &surpluses.even) += surplus > 0;
-    surpluses.stopped += surplus > 0 && refusal;
+    surpluses.odd += surplus % 2 == 1;
+    surpluses.even += surplus > 0 && surplus % 2 == 0;
+    surpluses.stopped += surplus > 0 && refusal != 0;
 }
 
 uint32_t call_play_block(voice *v, lent *forces, lent *samples)
@@ -293,7 +294,7 @@ uint32_t call_play_block(voice *v, lent *forces, lent *samples)
     voice_agrees(v);
     lent_agree(forces);
     lent_agree(samples);
-    same_behind((float *)((unsigned char *)before + samples->start), samples, answered.count);
+    same_behind(before + samples->start / sizeof *before, samples, answered.count);
     v->turn = answered.turn;
     v->finger = answered.finger;
     if (answered.refusal == 0 || answered.refusal == 12 || answered.refusal == 13 || answered.refusal == 14) {

@@ -58,19 +58,19 @@ void lent_open(lent *buffer, const char *name, size_t element)
     enter(buffer);
 }
 
-/* 2^32 elements and a page more, at a new address. Its first page can be written; the rest is never in memory, and is read as zeros. */
-static unsigned char *vast_pages(void)
+/* The page at a new address, and behind it what is never in memory: it is read as zeros, and cannot be written. */
+static unsigned char *vast_from(int file, int protection)
 {
     unsigned char *page = mmap(NULL, VAST * sizeof(int32_t) + PAGE, PROT_READ, MAP_PRIVATE | MAP_ANONYMOUS | MAP_NORESERVE, -1, 0);
-    if (page == MAP_FAILED || mprotect(page, PAGE, PROT_READ | PROT_WRITE))
+    if (page == MAP_FAILED || mmap(page, PAGE, protection, MAP_SHARED | MAP_FIXED, file, 0) == MAP_FAILED)
         give_up("a vast buffer");
     return page;
 }
 
 void lent_open_vast(lent *buffer, const char *name)
 {
-    unsigned char *page = vast_pages();
-    *buffer = (lent){name, sizeof(int32_t), 0, VAST, page, page, vast_pages()};
+    int file = new_page();
+    *buffer = (lent){name, sizeof(int32_t), 0, VAST, vast_from(file, PROT_READ | PROT_WRITE), vast_from(file, PROT_READ), vast_from(new_page(), PROT_READ | PROT_WRITE)};
     enter(buffer);
 }
 

@@ -100,7 +100,7 @@ typedef struct {
 } sv_played;
 
 /* A block of n steps, until the forces end or a step is refused: the steps made stand. Each accepted step writes its frame; the samples past the
-   last frame made, 2 * count of them on, are as they were. So a driver's buffer of a fixed length may be lent whole for fewer steps, as for the last
+   last frame made, from 2 * count on, are as they were. So a driver's buffer of a fixed length may be lent whole for fewer steps, as for the last
    block of a song; the caller silences the rest of it. A refusal of the block itself (1 to 5, 6, 15, 7 or 11) leaves every buffer as it was. */
 sv_played sv_play_block(sv_setup setup,
                         const int32_t *heights, size_t heights_length, /* to finger: as for a step */
