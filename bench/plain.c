@@ -47,8 +47,8 @@ static int64_t gradient(uint16_t stiffness, int64_t depth)
 
 static int64_t nearest(int64_t num, int64_t den)
 {
-    int64_t twice = 2 * num + den, unit = 2 * den, quotient = twice / unit;
-    return twice % unit < 0 ? quotient - 1 : quotient;
+    int64_t twice = 2 * num + den, unit = 2 * den, quotient = twice / unit, rest = twice % unit;
+    return rest == 0 ? quotient - (quotient & 1) : rest < 0 ? quotient - 1 : quotient;
 }
 
 static int lengths_wrong(size_t n, size_t a, size_t b, size_t c, size_t d, size_t e) { return a != n || b != n || c != n || d != n || e != n; }

@@ -189,7 +189,7 @@ void draw_plan(neck_plan *plan, size_t points, unsigned changes)
     lent_settle(plan->frets);
 }
 
-static int32_t within(int64_t number, int32_t end) { return (int32_t)(number > end ? end : number < -end ? -end : number); }
+int32_t within(int64_t number, int32_t end) { return (int32_t)(number > end ? end : number < -end ? -end : number); }
 
 /* At rest, each point at one of two ends, drawn out to a peak, or anything of that size. */
 static void draw_string(lent *buffer)

@@ -32,6 +32,7 @@ void draw_neck(voice *v, size_t points, unsigned changes);
 void draw_state(voice *v, size_t points, unsigned changes);
 void draw_forces(lent *forces, lent *samples, const sv_setup *setup, uint32_t most_steps, uint32_t greatest, unsigned changes);
 
+int32_t within(int64_t number, int32_t end); /* the number, or the end of its range, -end to end, that is next to it */
 size_t draw_length(size_t points, unsigned changes);
 uint32_t draw_turn(void);
 uint32_t draw_place(size_t points, unsigned changes);

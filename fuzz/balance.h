@@ -2,19 +2,11 @@
 #ifndef BALANCE_H
 #define BALANCE_H
 
-#include "../host/stored_energy.h"
+#include "equations.h"
 
 typedef struct {
-    const int32_t *newer, *older, *contact; /* N - 1 numbers each */
-    sv_finger finger;
-} voice_state;
-
-typedef struct {
-    sv_setup setup; /* one that is accepted */
-    const int32_t *heights;
-    const uint16_t *stiffness;
-    voice_state before, after;
-    int32_t pluck, finger_force;
+    given_step given;
+    voice_state after;
 } made_step;
 
 /* What the steps checked so far had in them. */
@@ -28,8 +20,8 @@ typedef struct {
 } balance_tally;
 extern balance_tally balanced;
 
-/* What is wrong with the step, in words, or NULL. Checked: what was newer is older now, residual limits, contact variables, the energy equation, and that
-   no stored energy or loss is negative. */
+/* What is wrong with the step, in words, or NULL. Checked: what was newer is older now, residual limits, contact variables, the energy equation, that
+   no stored energy or loss is negative, and that each move is nearest. */
 const char *balance_fault(const made_step *step);
 
 #endif

@@ -163,6 +163,11 @@ static voice_state state_of(const voice *v)
     return (voice_state){lent_numbers(newer), lent_numbers(older), lent_numbers(v->contact), v->finger};
 }
 
+given_step step_given(const voice *v, int32_t pluck, int32_t finger_force)
+{
+    return (given_step){v->setup, lent_numbers(v->heights), lent_numbers(v->stiffness), state_of(v), pluck, finger_force};
+}
+
 typedef struct {
     int32_t newer[127], older[127], contact[127];
 } kept;
@@ -181,7 +186,8 @@ static voice_state kept_state_of(const voice *v, kept *k)
 
 static void check_balance(const voice *v, voice_state before, int32_t pluck, int32_t finger_force)
 {
-    made_step made = {v->setup, lent_numbers(v->heights), lent_numbers(v->stiffness), before, state_of(v), pluck, finger_force};
+    made_step made = {step_given(v, pluck, finger_force), state_of(v)};
+    made.given.before = before;
     const char *wrong = balance_fault(&made);
     if (wrong)
         fault("%s", wrong);

@@ -3,6 +3,7 @@
 #define CALLS_H
 
 #include "arguments.h"
+#include "equations.h"
 
 enum { CHECK_SETUP, LAY_NECK, FRESH_START, STEP, PLAY_BLOCK, NEWEST, READ_PLACE, FUNCTIONS, REFUSALS = 16 };
 
@@ -21,6 +22,7 @@ typedef struct {
 extern surplus_tally surpluses;
 
 void calls_open(void);
+given_step step_given(const voice *v, int32_t pluck, int32_t finger_force); /* for a voice that is in order; its numbers are those in the library's pages */
 
 uint32_t call_check_setup(sv_setup setup);
 uint32_t call_lay_neck(sv_setup setup, const neck_plan *plan, lent *heights, lent *stiffness);

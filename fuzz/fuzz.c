@@ -6,7 +6,10 @@
 #include "bounds.h"
 #include "draw.h"
 #include "fault.h"
+#include "mirror.h"
+#include "nearest.h"
 #include "rules.h"
+#include "ties.h"
 
 static lent board, frets, heights, stiffness, first, second, contact, forces, samples, vast;
 static voice v = {.heights = &heights, .stiffness = &stiffness, .first = &first, .second = &second, .contact = &contact};
@@ -84,6 +87,22 @@ static void single_step(void)
     unsigned changes = draw_changes(SETUP | LENGTH | HEIGHT | STATE | FORCES), of_pluck = one_in(2) ? changes : 0;
     draw_voice(changes);
     int32_t pluck = draw_force(&v.setup, FORCE, of_pluck), finger_force = draw_force(&v.setup, FORCE, changes & ~of_pluck);
+    sv_frame frame;
+    call_step(&v, pluck, finger_force, &frame);
+}
+
+/* Z and the finger's mass are even, as they are where a half of what divides a force is a whole number. */
+static void single_tie(void)
+{
+    int32_t pluck, finger_force;
+    size_t points = draw_setup(&v.setup, 0);
+    v.setup.plain -= v.setup.plain % 2;
+    v.setup.finger_mass += v.setup.finger_mass % 2;
+    if (one_in(2))
+        v.setup.pluck_place = v.setup.finger_place;
+    draw_neck(&v, points, 0);
+    draw_state(&v, points, 0);
+    draw_tie(&v, &pluck, &finger_force);
     sv_frame frame;
     call_step(&v, pluck, finger_force, &frame);
 }
@@ -174,12 +193,14 @@ static void run_of_calls(void)
     }
 }
 
-/* Each kind with its share of 64 draws. A run makes some 80 calls, the search for a bound up to 34. */
+static void two_runs(void) { mirrored_runs(&v); }
+
+/* Each kind with its share of 64 draws. A run makes some 80 calls, two mirrored ones some 40, the search for a bound up to 34. */
 static const struct {
     void (*calls)(void);
     uint32_t share;
-} kinds[] = {{single_step, 22},  {single_reading, 9}, {single_neck, 8}, {single_setup, 6},  {single_start, 6},
-             {single_bound, 6}, {single_block, 4},   {single_vast, 1}, {run_of_calls, 1}, {single_newest, 1}};
+} kinds[] = {{single_step, 17}, {single_reading, 9}, {single_neck, 8}, {single_setup, 6}, {single_start, 6}, {single_bound, 6},
+             {single_tie, 4},   {single_block, 4},   {single_vast, 1}, {run_of_calls, 1}, {two_runs, 1},     {single_newest, 1}};
 
 static void draw_calls(void)
 {
@@ -204,6 +225,16 @@ static void print_row(const function_tally *row)
     printf("\n");
 }
 
+static void print_ties(void)
+{
+    static const char *const places[] = {"away from p", "at p", "at p under the finger", "of the finger", "of the pressing finger"};
+    printf("ties; solution above 0 and its even neighbour below, above; below 0 and below, above\n");
+    for (int place = 0; place < TIE_PLACES; place++)
+        printf("%-25s%10llu%10llu%10llu%10llu\n", places[place], ties[place][1][1], ties[place][1][0], ties[place][0][1], ties[place][0][0]);
+    printf("mirrored runs: %llu pairs; pairs of steps that moved %llu, of these with a tie %llu; refused %llu\n", mirrored.pairs, mirrored.moved, mirrored.tied,
+           mirrored.refused);
+}
+
 static void print_table(void)
 {
     function_tally all = {.name = "all"};
@@ -223,10 +254,29 @@ static void print_table(void)
            balanced.under_finger, balanced.at_limit, balanced.lossy, balanced.worked);
     printf("bounds met to the unit: of 13 %llu, of 14 %llu\n", bounds_met[13], bounds_met[14]);
     printf("blocks begun with a surplus of samples: odd %llu, even %llu; stopped by a step's refusal %llu\n", surpluses.odd, surpluses.even, surpluses.stopped);
+    print_ties();
 }
 
-/* Whether each function was accepted, and gave each of its refusals, and a block had each kind of surplus. */
-static int all_met(void)
+static int met(unsigned long long number, const char *what)
+{
+    if (number == 0)
+        printf("fuzz: %s: never met\n", what);
+    return number > 0;
+}
+
+/* Whether each kind of tie was met, each kind of surplus, and each kind of mirrored steps. */
+static int kinds_met(void)
+{
+    int all = 1;
+    for (int kind = 0; kind < 4 * TIE_PLACES; kind++)
+        all &= met(ties[kind / 4][kind / 2 % 2][kind % 2], "a kind of tie");
+    all &= met(surpluses.odd, "an odd surplus of samples") & met(surpluses.even, "an even surplus of samples");
+    all &= met(surpluses.stopped, "a block with a surplus of samples that is stopped");
+    return all & met(mirrored.moved, "mirrored steps") & met(mirrored.tied, "mirrored ties") & met(mirrored.refused, "mirrored refusals");
+}
+
+/* Whether each function was accepted, and gave each of its refusals. */
+static int answers_met(void)
 {
     int all = 1;
     for (int f = 0; f < FUNCTIONS; f++)
@@ -235,10 +285,6 @@ static int all_met(void)
                 printf("fuzz: %s: %s %d was never met\n", functions[f].name, refusal ? "refusal" : "answer", refusal);
                 all = 0;
             }
-    if (surpluses.odd == 0 || surpluses.even == 0 || surpluses.stopped == 0) {
-        printf("fuzz: sv_play_block: a surplus of samples was never met\n");
-        all = 0;
-    }
     return all;
 }
 
@@ -271,12 +317,13 @@ int main(int count, char **texts)
     draw_from_seed(seed);
     watch_calls(seed);
     calls_open();
+    mirror_open();
     open_buffers();
     while (calls_made < enough)
         draw_calls();
     print_table();
     printf("seed %llu, %.1f s\n", seed, seconds() - start);
-    if (!all_met())
+    if (!(answers_met() & kinds_met()))
         return 1;
     printf("fuzz: %llu calls, 0 faults\n", calls_made);
     return 0;

@@ -1,4 +1,4 @@
-"""Writes cases/stdin, calls at the boundaries of document 01, and cases/stdout, the reference's answers to them, into crates/ or a folder named.
+"""Writes cases/stdin, calls at the boundaries of document 01 and at ties, and cases/stdout, the reference's answers to them, into crates/ or a folder named.
 
 Each refusal number of each operation is given just outside its boundary, withheld on it, and beaten by each earlier number of the operation's
 order. The numbers in the tables below are 01's; a call to which the reference answers another number stops the writing.
@@ -254,6 +254,28 @@ BY_HAND = [
     (3, bench_setup((L, 4096), (S, 1))),
 ]
 
+HALVES = (1, 3, 5, -1, -3, -5)
+ODD = both(SLACK, give("first", 1), give("second", 1), give("finger", 1, 1, 0))
+IN_CONTACT = both(UNDER_FINGER, give("finger", 0, 0, 0))
+APART = both(SLACK, put("setup", (N, 3), (FINGER, 2)), *(give(label, 0, 0) for label in ("heights", "stiffness", "first", "second", "contact")))
+
+
+def halves_in_contact(string, finger):
+    """The string under the finger, both at rest: forces by which the exact moves are so many halves. A is 4096, m 4096 and g 8."""
+    return bench_step(32 + (4160 * string - 64 * finger) // 2, (4160 * finger - 64 * string) // 2, IN_CONTACT)
+
+
+# 02, item 2: moves of 1/2, 3/2, 5/2 and their negatives, of string and finger at rest; from odd displacements; in contact; away from p, and there
+# from an odd displacement
+TIES = [
+    *(bench_step(2048 * halves, 2048 * halves) for halves in HALVES),
+    *(bench_step(2 + 2048 * halves, 2048 * halves, ODD) for halves in HALVES),
+    *(halves_in_contact(halves, halves) for halves in HALVES),
+    *(halves_in_contact(*pair) for pair in ((1, 3), (3, 1), (-1, 5), (5, -1), (2, 3), (3, 2))),
+    *(bench_step(2048 * halves, 0, APART) for halves in HALVES),
+    *(bench_step(2 + 2048 * halves, 0, APART, give("first", 1, 0), give("second", 1, 0)) for halves in HALVES),
+]
+
 # at rest now, one end of the range before: without a force the string, or the finger, comes to the other end
 FROM_BELOW, FROM_ABOVE = give("second", -1_048_576), give("second", 1_048_576)
 FINGER_FROM_BELOW, FINGER_FROM_ABOVE = give("finger", 0, -1_048_576, 0), give("finger", 0, 1_048_576, 0)
@@ -270,9 +292,9 @@ def pressing(contact, pluck, finger_force):
 
 
 BOUNDARIES = [
-    *((number, bench_step(pluck, 0, FROM_BELOW)) for pluck, number in ((0, 0), (2047, 0), (2048, 13))),
+    *((number, bench_step(pluck, 0, FROM_BELOW)) for pluck, number in ((0, 0), (2048, 0), (2049, 13))),
     *((number, bench_step(pluck, 0, FROM_ABOVE)) for pluck, number in ((0, 0), (-2048, 0), (-2049, 13))),
-    *((number, bench_step(0, force, FINGER_FROM_BELOW)) for force, number in ((0, 0), (2047, 0), (2048, 13))),
+    *((number, bench_step(0, force, FINGER_FROM_BELOW)) for force, number in ((0, 0), (2048, 0), (2049, 13))),
     *((number, bench_step(0, force, FINGER_FROM_ABOVE)) for force, number in ((0, 0), (-2048, 0), (-2049, 13))),
     *((number, sinking(psi, 12_192 - 16 * psi)) for psi, number in ((67_108_856, 0), (67_108_857, 14))),
     *((number, sinking(psi, -12_256 - 16 * psi)) for psi, number in ((-67_108_856, 0), (-67_108_857, 14))),
@@ -308,6 +330,8 @@ def all_calls():
                     yield f"{operation}: {number} before {later}", number, Call(operation, both(later_changes[0], changes[0])(good))
     for number, call in BOUNDARIES:
         yield "boundary of 13 and 14", number, call
+    for call in TIES:
+        yield "ties", 0, call
     for number, *changes in LATER:
         yield f"block: {number} at a later step", number, Call("block", both(*changes)(GOOD["block"]))
     for number, *changes in LATER:

@@ -34,25 +34,31 @@ class Generator:
         """A number of this size, above or below 0."""
         return size if self.draw(2) == 0 else -size
 
-    def around(self, limit):
-        """A number from −limit to limit."""
-        return self.either(self.draw(limit + 1))
+    def around(self, limit, unit):
+        """A multiple of the unit from −limit to limit."""
+        return self.either(multiple(self.draw(limit + 1), unit))
 
     def beyond(self):
         """A force out of range."""
         return self.either(1_073_741_825 + self.draw(1_073_741_823))
 
 
+def multiple(number, unit):
+    """The greatest multiple of the unit that is at most the number; with a unit of 0 the number itself."""
+    return number if unit == 0 else number - number % unit
+
+
 def drawn_setup(generator, segments):
-    """A setup that is accepted, with so many segments."""
-    tension = 1 + generator.draw(4096)
-    stiffness = generator.evenly_or_some((4096 - tension) // 4)
+    """A setup that is accepted, with so many segments. In a quarter of the draws its coefficients are multiples of 512: then many moves are ties."""
+    unit = 512 if generator.draw(4) == 0 else 1
+    tension = 4096 - multiple(generator.draw(4096), unit)
+    stiffness = multiple(generator.evenly_or_some((4096 - tension) // 4), unit)
     return Setup(
         segments=segments,
         tension=tension,
         stiffness=stiffness,
-        viscous=generator.evenly_or_some((4096 - tension - 4 * stiffness) // 2),
-        plain=generator.evenly_or_some(4096),
+        viscous=multiple(generator.evenly_or_some((4096 - tension - 4 * stiffness) // 2), unit),
+        plain=multiple(generator.evenly_or_some(4096), unit),
         finger_stiffness=generator.evenly_or_some(65_535),
         finger_mass=1 + generator.evenly_or_some(1_048_575),
         finger_place=1 + generator.draw(segments - 1),
@@ -81,19 +87,29 @@ def drawn_heights(generator):
     if kind == 0:
         return height, height + generator.draw(262_145)
     if kind == 1:
-        return height, generator.around(1_048_576)
+        return height, generator.around(1_048_576, 1)
     return height, height
 
 
-def drawn_forces(generator):
-    """The forces of 64 frames: some plucks, then none; some finger forces, then none; in a quarter of the draws one of them out of range."""
-    pluck_limit, finger_limit = generator.some(1_073_741_824), generator.some(1_073_741_824)
+def drawn_range(generator, halves, half):
+    """What forces are multiples of, and how large they are at most."""
+    return (half, 8 * half) if halves else (1, generator.some(1_073_741_824))
+
+
+def drawn_forces(generator, setup):
+    """The forces of 64 frames: some plucks, then none; some finger forces, then none; in a quarter of the draws one of them out of range.
+
+    In half of the draws they are small multiples of one half of what divides them, 4096 + Z and the finger's mass: an odd multiple may make a tie.
+    """
+    halves = generator.draw(2) == 0
+    pluck_unit, pluck_limit = drawn_range(generator, halves, 2048 + setup.plain // 2)
+    finger_unit, finger_limit = drawn_range(generator, halves, setup.finger_mass // 2)
     plucked, pressed = generator.some(64), generator.some(64)
     forces = [0] * 128
     for frame in range(plucked):
-        forces[2 * frame] = generator.around(pluck_limit)
+        forces[2 * frame] = generator.around(pluck_limit, pluck_unit)
     for frame in range(pressed):
-        forces[2 * frame + 1] = generator.around(finger_limit)
+        forces[2 * frame + 1] = generator.around(finger_limit, finger_unit)
     if generator.draw(4) == 0:
         which = generator.draw(128)
         forces[which] = generator.beyond()

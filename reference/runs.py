@@ -1,11 +1,14 @@
 """Writes runs/stdout, into crates/ or a folder named: long runs on drawn setups, necks, fingers and forces, played by the reference.
 
 A run is stretches of 256 frames, each of them four parts of 64: a block, single steps, a block, single steps. The checksum of a run takes in every
-refusal, and after each part the turn, the finger, all buffers and all samples.
+refusal, and after each part the turn, the finger, all buffers and all samples. The single steps must have made enough ties of every kind.
 """
 
 import sys
+from collections import Counter
 from concurrent.futures import ProcessPoolExecutor
+from fractions import Fraction
+from math import floor
 
 from calls import crates_folder, single_bits
 from drawn import Generator, drawn_forces, drawn_heights, drawn_neck, drawn_setup
@@ -13,10 +16,22 @@ from string_voice.neck import lay_neck
 from string_voice.playing import play_block
 from string_voice.ranges import Refused
 from string_voice.setup import check_setup
-from string_voice.step import fresh_start, step
+from string_voice.step import fresh_start, state_of, step, work_out
 
 RUNS = 48
 STRETCHES = 21
+ENOUGH = 100
+KINDS = [(where, above, even) for where in ("away from p", "at p", "of the finger") for above in (True, False) for even in (True, False)]
+
+
+def ties_of(worked):
+    """The ties of a step: where each is, whether it is above 0, and whether the lower of its neighbours is the even one."""
+    solutions = [("at p", worked.exact_at_p), ("of the finger", worked.exact_finger)]
+    p = worked.setup.finger_place
+    for place, (A, c) in enumerate(zip(worked.factors, worked.right_sides)):
+        if place != p and 2 * c % A == 0:
+            solutions.append(("away from p", Fraction(c, A)))
+    return [(where, exact > 0, floor(exact) % 2 == 0) for where, exact in solutions if exact.denominator == 2]
 
 
 class Run:
@@ -30,7 +45,7 @@ class Run:
         lay_neck(self.setup, *drawn_neck(self.generator, segments), self.heights, self.stiffness)
         self.first, self.second, self.contact = [0] * points, [0] * points, [0] * points
         self.samples = [0] * 128
-        self.steps, self.refused, self.checksum = 0, {12: 0, 13: 0, 14: 0}, 0
+        self.steps, self.refused, self.checksum, self.ties = 0, {12: 0, 13: 0, 14: 0}, 0, Counter()
         self.start()
 
     def start(self):
@@ -64,9 +79,11 @@ class Run:
     def singles(self, forces):
         """64 frames as single steps; one that is refused does not end them. Answers the last one's refusal."""
         for frame in range(64):
-            refusal = 0
+            refusal, given = 0, forces[2 * frame : 2 * frame + 2]
+            before = state_of(self.first, self.second, self.contact, self.turn, self.finger)
             try:
-                stepped = step(*self.voice, *forces[2 * frame : 2 * frame + 2])
+                stepped = step(*self.voice, *given)
+                self.ties.update(ties_of(work_out(self.setup, self.heights, self.stiffness, before, *given)))
                 self.turn, self.finger = stepped.turn, stepped.finger
                 self.samples[2 * frame : 2 * frame + 2] = stepped.frame
                 self.steps += 1
@@ -77,7 +94,7 @@ class Run:
 
     def part(self, play):
         """64 frames. After 13 or 14 the voice starts anew."""
-        refusal = play(drawn_forces(self.generator))
+        refusal = play(drawn_forces(self.generator, self.setup))
         finger = self.finger
         numbers = [finger.newer, finger.older, finger.contact, *self.first, *self.second, *self.contact]
         self.add(self.turn)
@@ -98,8 +115,8 @@ class Run:
         )
 
 
-def lines_of(number):
-    """The lines of a run. The segments of the runs go evenly from 2 to 128."""
+def played(number):
+    """The lines of a run, and its ties. The segments of the runs go evenly from 2 to 128."""
     run = Run(number + 1, 2 + number * 126 // (RUNS - 1))
     lines = []
     for stretch in range(STRETCHES):
@@ -108,12 +125,16 @@ def lines_of(number):
         for play in (run.block, run.singles, run.block, run.singles):
             run.part(play)
         lines.append(run.line(stretch))
-    return lines
+    return lines, run.ties
 
 
 def main(crates):
     with ProcessPoolExecutor() as pool:
-        lines = [line for run in pool.map(lines_of, range(RUNS)) for line in run]
+        runs = list(pool.map(played, range(RUNS)))
+    ties = sum((of_run for _, of_run in runs), Counter())
+    for kind in KINDS:
+        assert ties[kind] >= ENOUGH, f"ties {kind}: {ties[kind]}, and not {ENOUGH}"
+    lines = [line for of_run, _ in runs for line in of_run]
     (crates / "runs" / "stdout").write_text("\n".join(lines) + "\n")
 
 

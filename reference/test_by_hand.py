@@ -1,4 +1,4 @@
-"""Every line of 01's 'Checked by hand', starred and unstarred, on the reference."""
+"""Every line of 01's 'Checked by hand', starred and unstarred, on the reference, as 02's item 2 reads them."""
 
 import unittest
 from dataclasses import replace
@@ -56,14 +56,12 @@ class CheckedByHand(unittest.TestCase):
         self.assertEqual(stored(BENCH, next_state(first_pluck(4096))), 8192)
 
     def test_first_plucks(self):
-        for pluck, displacement in ((2048, 1), (2047, 0), (-2048, 0), (-2049, -1)):
+        for pluck, displacement in ((2048, 0), (2047, 0), (-2048, 0), (-2049, -1)):
             self.assertEqual(displacements([pluck]), [displacement])
 
     def test_energies_of_a_tie(self):
         worked = first_pluck(2048)
-        self.assertEqual(work(worked), 4096)
-        self.assertEqual(rounding_work(worked), 4096)
-        self.assertEqual(stored(BENCH, next_state(worked)), 8192)
+        self.assertEqual((work(worked), rounding_work(worked), stored(BENCH, next_state(worked))), (0, 0, 0))
 
     def test_pressed_string(self):
         setup = replace(BENCH, tension=1)

@@ -24,7 +24,7 @@ class Energy(unittest.TestCase):
         turn, finger = fresh_start(setup, first, second, contact, *drawn_heights(generator))
         steps = 0
         for _ in range(4):
-            forces = drawn_forces(generator)
+            forces = drawn_forces(generator, setup)
             for pluck, finger_force in zip(forces[::2], forces[1::2]):
                 state = state_of(first, second, contact, turn, finger)
                 try:

@@ -1,4 +1,4 @@
-"""01, 'One step': the fresh start, and the step with its gradients, moves and next state."""
+"""01, 'One step', with 02's item 2: the fresh start, and the step with its gradients, moves and next state."""
 
 from dataclasses import dataclass
 from fractions import Fraction
@@ -40,6 +40,8 @@ class Worked:
     factors: list  # A
     right_sides: list  # c
     finger_side: int  # the right side of the second equation at p
+    exact_at_p: Fraction  # the solution of both equations at p, not rounded
+    exact_finger: Fraction
     moves: list  # δ
     finger_move: int  # δw
 
@@ -64,8 +66,13 @@ def fresh_start(setup, first, second, contact, height, older_height):
 
 
 def nearest(numerator, denominator):
-    """The whole number nearest a fraction, a tie to the greater: the greatest that is at most the fraction and 1/2. The denominator is above 0."""
-    return (2 * numerator + denominator) // (2 * denominator)
+    """The whole number nearest a fraction: of its two neighbours the nearer one, and of two as near the even one. The denominator is above 0."""
+    below = numerator // denominator
+    above = below + 1
+    to_below, to_above = numerator - denominator * below, denominator * above - numerator
+    if to_below == to_above:
+        return below if below % 2 == 0 else above
+    return below if to_below < to_above else above
 
 
 def solve(matrix, side):
@@ -94,7 +101,7 @@ def work_out(setup, heights, stiffness, state, pluck, finger_force):
     at_p, of_finger = solve(matrix, (c[p] - 2 * g * finger.contact, finger_side))
     moves[p] = nearest(*at_p.as_integer_ratio())
     finger_move = nearest(*of_finger.as_integer_ratio())
-    return Worked(setup, state, pluck, finger_force, G, g, A, c, finger_side, moves, finger_move)
+    return Worked(setup, state, pluck, finger_force, G, g, A, c, finger_side, at_p, of_finger, moves, finger_move)
 
 
 def next_state(worked):

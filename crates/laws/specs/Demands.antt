@@ -19,6 +19,8 @@ use Rattle.laws.specs.Accepted as Accepted
 use Rattle.laws.specs.Accepted.{sound, start-accepted}
 use Rattle.laws.specs.Solved as Solved
 use Rattle.laws.specs.Run.{run}
+use Rattle.promises.specs.Symmetry.{Symmetry}
+use Rattle.laws.specs.Symmetry as Symmetric
 use Rattle.laws.specs.Exact as Exact
 use Rattle.laws.specs.Block as Block
 use Rattle.laws.specs.LongerSamples as Longer
@@ -70,3 +72,7 @@ readings = Exact.readings
 
 pub rounding : Rounding
 rounding a b h = (nearest-is a h, λ q n. unique h n (nearest-is a h))
+
+-- the negated run is the run, negated
+pub symmetry : Symmetry
+symmetry = Symmetric.symmetry

@@ -10,6 +10,8 @@ pub mod Moves
 pub mod Limits
 pub mod Balance
 pub mod Positive
+pub mod Loose
+pub mod Symmetry
 pub mod Run
 pub mod Solved
 pub mod Sizes
@@ -23,3 +25,4 @@ pub mod Playing
 pub mod Exact
 pub mod Demands
 mod Witness
+mod SymmetryWitness

@@ -1,5 +1,5 @@
 -- 01, 'Checked by hand': the starred lines, in their order, as one theorem by table. Answers are whole results of setup, fresh start and step, as
--- the public contracts equate them; gradients, moves, work and energies are by their definitions.
+-- the public contracts equate them; gradients, moves, work and energies are by their definitions. The lines on a pluck of 2048 are as 02, item 2, reads them.
 use mathlib.Core.Path.{refl}
 use mathlib.Core.Bool.{true, false}
 use mathlib.Core.List.{List, [], _∷_, map, zipWith}
@@ -94,13 +94,13 @@ lines =
     -- stored energy after the first step
     ∷ areNumbers (stored bench (onePoint (pos 0) (pos 1) (pos 0) 1 restingFinger) ∷ []) gives areNumbers (pos 8192 ∷ [])
     -- first plucks
-    ∷ plucks (pos 2048 ∷ []) gives areSteps (after one (onePoint (pos 0) (pos 1) (pos 0) 1 restingFinger) ∷ [])
+    ∷ plucks (pos 2048 ∷ []) gives areSteps (after zero-float (onePoint (pos 0) (pos 0) (pos 0) 1 restingFinger) ∷ [])
     ∷ plucks (pos 2047 ∷ []) gives areSteps (after zero-float (onePoint (pos 0) (pos 0) (pos 0) 1 restingFinger) ∷ [])
     ∷ plucks (negℤ (pos 2048) ∷ []) gives areSteps (after zero-float (onePoint (pos 0) (pos 0) (pos 0) 1 restingFinger) ∷ [])
     ∷ plucks (negℤ (pos 2049) ∷ []) gives areSteps (after minus-one (onePoint (pos 0) (negℤ (pos 1)) (pos 0) 1 restingFinger) ∷ [])
     -- with 2048: work, rounding work, stored
     ∷ (let t = workedStep bench (flatNeck 0) (stateOf (onePoint (pos 0) (pos 0) (pos 0) 0 restingFinger)) (forces (pos 2048) (pos 0)) in
-    areNumbers (work t ∷ roundingWork t ∷ storedEnergy bench (nextState t) ∷ [])) gives areNumbers (pos 4096 ∷ pos 4096 ∷ pos 8192 ∷ [])
+    areNumbers (work t ∷ roundingWork t ∷ storedEnergy bench (nextState t) ∷ [])) gives areNumbers (pos 0 ∷ pos 0 ∷ pos 0 ∷ [])
     -- on the neck: the step, its gradients and moves, the stored energies; at stiffness 63 no gradient
     ∷ areSteps (inTurn (benchSetup 1 0 0 0 0) (flatNeck 64) onNeck (forces (pos 0) (pos 0) ∷ [])) gives areSteps (after minus-twelve onNeck' ∷ [])
     ∷ areNumbers (unforced (benchSetup 1 0 0 0 0) (flatNeck 64) onNeck) gives areNumbers (pos 8 ∷ pos 0 ∷ pos 4 ∷ pos 0 ∷ [])

@@ -20,5 +20,6 @@ pub mod Table
 pub mod Bench
 pub mod CheckedByHand
 pub mod Worked
+pub mod Ties
 pub mod WorkedCalls
 pub mod Boundaries

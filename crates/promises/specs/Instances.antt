@@ -2,7 +2,7 @@
 use mathlib.Core.Path.{_≡_, refl, sym, _∙_, ap}
 use mathlib.Core.Logic.{inl}
 use mathlib.Core.Bool.{true, false, not}
-use mathlib.Core.List.{List, [], _∷_, zipWith}
+use mathlib.Core.List.{List, [], _∷_, map, zipWith}
 use Prim.Native.Nat.{ℕ, zero, suc}
 use native.Mathlib.Omega.{arith}
 use lib.Dec.{T, ltb, eqb, lit≤, lit<}
@@ -30,15 +30,22 @@ use Rattle.model.specs.Block.{BlockResult, play, blockRules, block}
 use Rattle.model.specs.Bench.{benchSetup, flatNeck, finger, restingFinger, onePoint, forces}
 use Rattle.model.specs.declared.Setup.{Setup}
 use Rattle.promises.specs.Promises.{Refuses, IsNearest, IsRounded, AreGradients, Solves, Run, flips, frameSamples, Plays, followedBy, PlaysNoPart, OddAlone, Shows, shown}
+use Rattle.promises.specs.Symmetry.{opposed, Mirrored}
 
 -- ---- rounding
 
--- 2048 / 4096 is a tie, and goes to 1; −2048 / 4096 to 0
-tie-up : IsNearest (pos 2048) (pos 4096) (pos 1)
-tie-up = record { near = leZ-yes tt; tie = λ q. ltZ-yes tt }
+-- 2048 / 4096 and −2048 / 4096 are ties, and go to 0; 6144 / 4096 goes to 2, −6144 / 4096 to −2
+tie-down : IsNearest (pos 2048) (pos 4096) (pos 0)
+tie-down = record { near = leZ-yes tt; tie = λ q. (pos 0, refl) }
 
-tie-up-below : IsNearest (negℤ (pos 2048)) (pos 4096) (pos 0)
-tie-up-below = record { near = leZ-yes tt; tie = λ q. ltZ-yes tt }
+tie-up : IsNearest (negℤ (pos 2048)) (pos 4096) (pos 0)
+tie-up = record { near = leZ-yes tt; tie = λ q. (pos 0, refl) }
+
+tie-up-to-two : IsNearest (pos 6144) (pos 4096) (pos 2)
+tie-up-to-two = record { near = leZ-yes tt; tie = λ q. (pos 1, refl) }
+
+tie-down-to-two : IsNearest (negℤ (pos 6144)) (pos 4096) (negℤ (pos 2))
+tie-down-to-two = record { near = leZ-yes tt; tie = λ q. (negℤ (pos 1), refl) }
 
 -- 2·x + 3·y = 5 and −x + 4·y = 8: x = −4/11, y = 21/11
 pair : System
@@ -53,8 +60,8 @@ pair-rounded = record {
   positive = ltZ-yes tt;
   row₁ = refl;
   row₂ = refl;
-  near₁ = record { near = leZ-yes tt; tie = λ q. ltZ-yes tt };
-  near₂ = record { near = leZ-yes tt; tie = λ q. ltZ-yes tt };
+  near₁ = record { near = leZ-yes tt; tie = λ q. (pos 0, refl) };
+  near₂ = record { near = leZ-yes tt; tie = λ q. (pos 1, refl) };
 }
 
 -- ---- refusals
@@ -152,20 +159,20 @@ forced {f} q t = absurd (rw q at t)
 runs :
     -- at rest the energy is 0
     Run (flatNeck 0) (benchVoice 4096 0 0 0 0 (pos 0)) []
-    -- a pluck of 2048 is a tie: its doubled residual and its rounding work reach their limits
-    × Run (flatNeck 0) (benchVoice 4096 0 0 0 0 (pos 0)) (forces (pos 2048) (pos 0) ∷ [])
+    -- a pluck of 6144 is a tie, and moves by 2: its doubled residual and its rounding work reach their limits
+    × Run (flatNeck 0) (benchVoice 4096 0 0 0 0 (pos 0)) (forces (pos 6144) (pos 0) ∷ [])
     -- with losses, and a refused step in between
     × Run (flatNeck 0) (benchVoice 100 10 50 100 0 (pos 0)) (forces (pos 409600) (pos 777) ∷ forces (pos 2000000000) (pos 0) ∷ none ∷ [])
     -- lossless and unforced: the finger strikes the string, and rounding changes the stored energy, 524,288, by 512
     × Run (flatNeck 0) (benchVoice 1 0 0 0 65535 (pos 8)) (none ∷ none ∷ none ∷ [])
-    -- lossless and unforced, and a tie: the stored energy rises from 4,194,304 by 4096, which is its bound
-    × Run (flatNeck 0) (voice (benchSetup 1 0 0 0 0) (onePoint (negℤ (pos 1024)) (negℤ (pos 1024)) (pos 0) 0 restingFinger)) (none ∷ [])
+    -- lossless and unforced, and a tie: the stored energy rises from 37,748,736 by 8192, which is its bound
+    × Run (flatNeck 0) (voice (benchSetup 1 0 0 0 0) (onePoint (negℤ (pos 3072)) (negℤ (pos 3072)) (pos 0) 0 restingFinger)) (none ∷ [])
 unfolding none history voiceAfter acceptedSteps sumOver stateOf put storedEnergy loss work residuals limits roundingWork roundingLimit dotAll step
     stepRules callRules resultRules setupRules placeOk lengthOk between inside heightOk displacementOk contactOk forceOk workedStep gradients gradient
     root greatest moves A c system rounded₁ rounded₂ nearest floor nextState frame plus minus times zipWith D1 dot E sum
 runs = (
   record { never-negative = leZ-yes tt; exact = refl; limited = tt; bounded = leZ-yes tt; conserved = λ l u. leZ-yes tt },
-  record { never-negative = leZ-yes tt; exact = equal (pos 8192) refl refl; limited = (record { points = (leZ-yes tt, tt); finger = leZ-yes tt }, tt); bounded = leZ-yes tt; conserved = λ l u. forced (u .0 .pluck) tt },
+  record { never-negative = leZ-yes tt; exact = equal (pos 32768) refl refl; limited = (record { points = (leZ-yes tt, tt); finger = leZ-yes tt }, tt); bounded = leZ-yes tt; conserved = λ l u. forced (u .0 .pluck) tt },
   record {
     never-negative = leZ-yes tt;
     exact = equal (pos 67073020) refl refl;
@@ -180,7 +187,7 @@ runs = (
     bounded = leZ-yes tt;
     conserved = λ l u. leZ-yes tt;
   },
-  record { never-negative = leZ-yes tt; exact = equal (pos 4198400) refl refl; limited = (record { points = (leZ-yes tt, tt); finger = leZ-yes tt }, tt); bounded = leZ-yes tt; conserved = λ l u. leZ-yes tt },
+  record { never-negative = leZ-yes tt; exact = equal (pos 37756928) refl refl; limited = (record { points = (leZ-yes tt, tt); finger = leZ-yes tt }, tt); bounded = leZ-yes tt; conserved = λ l u. leZ-yes tt },
 )
 
 -- ---- a block and a reading
@@ -230,3 +237,19 @@ pressed = ((refl, refl), ((refl, refl), tt))
 free : Shows (shown (pos 30) (negℤ (pos 80))) (readingResult (reading three (threeNeck .heights) (lent .first) (lent .second) 0 2))
 unfolding reading readingRules setupRules placeOk lengthOk between inside heightOk displacementOk fraction round
 free = ((refl, refl), tt)
+
+-- ---- two runs, one the negative of the other
+
+-- two ties of string and finger, and a step refused before them
+mirrored : let Fs = forces (pos 2000000000) (pos 0) ∷ forces (pos 6144) (pos 10240) ∷ [] in Mirrored (history (flatNeck 0) (benchVoice 4096 0 0 0 0 (pos 0)) Fs) (history (flatNeck 0) (benchVoice 4096 0 0 0 0 (pos 0)) (map opposed Fs))
+unfolding history stateOf put step stepRules callRules resultRules setupRules placeOk lengthOk between inside heightOk displacementOk contactOk forceOk
+    workedStep gradients gradient root greatest moves A c system rounded₁ rounded₂ nearest floor nextState plus minus times zipWith D1
+mirrored = (
+  equal 12 refl refl,
+  record { first = equal (pos 0 ∷ []) refl refl; second = equal (pos 0 ∷ []) refl refl; turn = equal 0 refl refl; height = equal (pos 0) refl refl; older-height = equal (pos 0) refl refl },
+  (
+    tt,
+    record { first = equal (pos 0 ∷ []) refl refl; second = equal (negℤ (pos 2) ∷ []) refl refl; turn = equal 1 refl refl; height = equal (negℤ (pos 2)) refl refl; older-height = equal (pos 0) refl refl },
+    tt,
+  ),
+)

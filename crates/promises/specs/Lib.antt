@@ -1,3 +1,4 @@
--- What is promised of document 01's voice: the statements, and closed instances of them.
+-- What is promised of the voice of documents 01 and 02: the statements, and closed instances of them.
 pub mod Promises
+pub mod Symmetry
 mod Instances

@@ -74,14 +74,18 @@ pub record Accepts : Type 0 where
       → (length (r .heights) ≡ points s) × (length (r .stiffness) ≡ points s) × ((k : ℕ) → k < points s → LaidAt plan (suc k) (getD (r .heights) k (pos 0)) (getD (r .stiffness) k 0))
   pub starts : (s : Setup) (first second contact : List ℤ) (w w' : ℤ) (a : Started) → let r = start s first second contact w w' in r .answer ≡ accepted a → r ≡ startedResult (fresh s w w')
 
--- ---- rounding: to the nearest whole number, a tie to the greater
+-- ---- rounding: to the nearest whole number, a tie to the even one
+
+-- twice a whole number
+abbrev pub Even : ℤ → Type 0
+Even q = (k : ℤ) × (q ≡ pos 2 *ℤ k)
 
 -- q is the whole number nearest a / b, for b above 0
 pub record IsNearest (a b q : ℤ) : Type 0 where
   -- it is at most one half from a / b
   pub near : size (pos 2 *ℤ (b *ℤ q -ℤ a)) ≤ℤ b
-  -- where it is one half from it, q is the greater of the two whole numbers that are
-  pub tie : size (pos 2 *ℤ (b *ℤ q -ℤ a)) ≡ b → a <ℤ (b *ℤ q)
+  -- where it is one half from it, q is the even one of the two whole numbers that are
+  pub tie : size (pos 2 *ℤ (b *ℤ q -ℤ a)) ≡ b → Even q
 
 -- what the model rounds to is nearest, and the only such number
 abbrev pub Rounding : Type 0

@@ -1,4 +1,4 @@
-// Drawn numbers. The generator holds a number of 32 bits other than 0; reference/runs.py has the same one.
+// Drawn numbers. The generator holds a number of 32 bits other than 0; reference/drawn.py has the same one.
 ghost use Prim.Native.Nat.{_≤_, _<_};
 
 // A number that was drawn, and what the generator holds then.
@@ -86,12 +86,22 @@ fn either(x: u32, size: u32) -> DrawnSigned
     }
 }
 
-// A number from −limit to limit.
-pub fn around(x: u32, limit: u32) -> DrawnSigned
+// The greatest multiple of the unit that is at most the number; with a unit of 0 the number itself.
+pub fn multiple(number: u32, unit: u32) -> u32
+    ensures { λ r. ⌜ r ≤ number ⌝ }
+{
+    if unit == 0 {
+        return number;
+    }
+    number - number % unit
+}
+
+// A multiple of the unit from −limit to limit.
+pub fn around(x: u32, limit: u32, unit: u32) -> DrawnSigned
     requires { ⌜ limit < 2147483648 ⌝ }
 {
     let size = draw(x, limit + 1);
-    either(size.next, size.number)
+    either(size.next, multiple(size.number, unit))
 }
 
 // A force out of range.

@@ -8,6 +8,7 @@ use crate::generator::around;
 use crate::generator::beyond;
 use crate::generator::draw;
 use crate::generator::evenly_or_some;
+use crate::generator::multiple;
 use crate::generator::negative;
 use crate::generator::some;
 use voice::FingerSetup;
@@ -29,16 +30,54 @@ pub struct DrawnSetup {
     pub next: u32,
 }
 
+// A coefficient up to a limit, as a multiple of the unit.
+fn coefficient(x: u32, limit: u32, unit: u32) -> Drawn
+    requires { ⌜ limit < 4294967295 ⌝ }
+    ensures { λ r. ⌜ r .number ≤ limit ⌝ }
+{
+    let drawn = evenly_or_some(x, limit);
+    Drawn {
+        number: multiple(drawn.number, unit),
+        next: drawn.next,
+    }
+}
+
+struct DrawnCoefficients {
+    tension: u32,
+    stiffness: u32,
+    viscous: u32,
+    plain: u32,
+    next: u32,
+}
+
+// L, M, S and Z that are accepted. In a quarter of the draws they are multiples of 512: then many moves are ties.
+fn coefficients(x: u32) -> DrawnCoefficients {
+    let quarter = draw(x, 4);
+    let unit = if quarter.number == 0 { 512 } else { 1 };
+    let slack = draw(quarter.next, 4096);
+    let tension = 4096 - multiple(slack.number, unit);
+    let stiffness = coefficient(slack.next, (4096 - tension) / 4, unit);
+    let viscous = coefficient(
+        stiffness.next,
+        (4096 - tension - 4 * stiffness.number) / 2,
+        unit,
+    );
+    let plain = coefficient(viscous.next, 4096, unit);
+    DrawnCoefficients {
+        tension,
+        stiffness: stiffness.number,
+        viscous: viscous.number,
+        plain: plain.number,
+        next: plain.next,
+    }
+}
+
 // A setup that is accepted, with so many segments.
 pub fn setup(x: u32, segments: u32) -> DrawnSetup
     requires { ⌜ 1 < segments ⌝ }
 {
-    let drawn = draw(x, 4096);
-    let tension = 1 + drawn.number;
-    let stiffness = evenly_or_some(drawn.next, (4096 - tension) / 4);
-    let viscous = evenly_or_some(stiffness.next, (4096 - tension - 4 * stiffness.number) / 2);
-    let plain = evenly_or_some(viscous.next, 4096);
-    let finger_stiffness = evenly_or_some(plain.next, 65535);
+    let drawn = coefficients(x);
+    let finger_stiffness = evenly_or_some(drawn.next, 65535);
     let mass = evenly_or_some(finger_stiffness.next, 1048575);
     let finger_place = place(mass.next, segments);
     let pluck_place = place(finger_place.next, segments);
@@ -47,10 +86,10 @@ pub fn setup(x: u32, segments: u32) -> DrawnSetup
     DrawnSetup {
         setup: Setup {
             segments,
-            tension,
-            stiffness: stiffness.number,
-            viscous: viscous.number,
-            plain: plain.number,
+            tension: drawn.tension,
+            stiffness: drawn.stiffness,
+            viscous: drawn.viscous,
+            plain: drawn.plain,
             finger: FingerSetup {
                 place: finger_place.number,
                 stiffness: finger_stiffness.number as u16,
@@ -119,14 +158,44 @@ pub fn frets(x: u32, segments: u32, places: &mut [u32]) -> DrawnFrets
     DrawnFrets { count, next }
 }
 
-// Forces within a limit at every other entry, `given` of them, then 0; answers what the generator holds then.
-fn every_other(x: u32, limit: u32, given: u32, start: usize, out: &mut [i32; 128]) -> u32
+// How large forces are at most, and what they are multiples of.
+struct Limits {
+    limit: u32,
+    unit: u32,
+    next: u32,
+}
+
+// Any forces up to a drawn one, or up to eight halves of what divides them: an odd number of halves may make a tie.
+fn range(x: u32, halves: bool, half: u32) -> Limits
+    ensures { λ r. ⌜ r .limit ≤ 1073741824 ⌝ }
+{
+    if halves {
+        return Limits {
+            limit: if half < 134217728 {
+                8 * half
+            } else {
+                1073741824
+            },
+            unit: half,
+            next: x,
+        };
+    }
+    let limit = some(x, 1073741824);
+    Limits {
+        limit: limit.number,
+        unit: 1,
+        next: limit.next,
+    }
+}
+
+// Forces in a range at every other entry, `given` of them, then 0; answers what the generator holds then.
+fn every_other(x: u32, limit: u32, unit: u32, given: u32, start: usize, out: &mut [i32; 128]) -> u32
     requires { ⌜ (limit < 2147483648) × (start < 2) × (length (now out) ≡ 128) × (given ≤ 64) ⌝ }
     ensures { λ _. ⌜ length (now (out .exit)) ≡ 128 ⌝ }
 {
     let mut next = x;
     for i in 0..given {
-        let force = around(next, limit);
+        let force = around(next, limit, unit);
         let number = force.number;
         out[2 * i as usize + start] = number;
         next = force.next;
@@ -134,18 +203,27 @@ fn every_other(x: u32, limit: u32, given: u32, start: usize, out: &mut [i32; 128
     next
 }
 
-// The forces of 64 frames, instead of none: some plucks and some finger forces; in a quarter of the draws one of them out of range.
+// The forces of 64 frames, instead of none: some plucks and some finger forces, in half of the draws in halves of what divides them; in a quarter of
+// the draws one of them out of range.
 // Answers what the generator holds then.
-pub fn forces(x: u32, out: &mut [i32; 128]) -> u32
+pub fn forces(x: u32, setup: Setup, out: &mut [i32; 128]) -> u32
     requires { ⌜ length (now out) ≡ 128 ⌝ }
 {
-    let pluck_limit = some(x, 1073741824);
-    let finger_limit = some(pluck_limit.next, 1073741824);
-    let plucked = some(finger_limit.next, 64);
+    let half = draw(x, 2);
+    let pluck = range(half.next, half.number == 0, 2048 + setup.plain / 2);
+    let finger = range(pluck.next, half.number == 0, setup.finger.mass / 2);
+    let plucked = some(finger.next, 64);
     let pressed = some(plucked.next, 64);
-    let next = every_other(pressed.next, pluck_limit.number, plucked.number, 0, out);
+    let next = every_other(
+        pressed.next,
+        pluck.limit,
+        pluck.unit,
+        plucked.number,
+        0,
+        out,
+    );
     let quarter = draw(
-        every_other(next, finger_limit.number, pressed.number, 1, out),
+        every_other(next, finger.limit, finger.unit, pressed.number, 1, out),
         4,
     );
     if quarter.number > 0 {

@@ -21,7 +21,7 @@ fn older_height(x: u32, height: u32) -> DrawnSigned
 {
     let quarter = generator::draw(x, 4);
     if quarter.number == 1 {
-        return generator::around(quarter.next, 1048576);
+        return generator::around(quarter.next, 1048576, 1);
     }
     if quarter.number > 1 {
         return DrawnSigned {
@@ -68,7 +68,7 @@ fn start_at_times(setup: Setup, before: State) -> State {
 fn part(setup: Setup, heights: &[i32], stiffness: &[u16], before: State, in_block: bool) -> State {
     let mut forces = [0; 128];
     let mut drawn = before;
-    drawn.drawn = inputs::forces(before.drawn, &mut forces);
+    drawn.drawn = inputs::forces(before.drawn, setup, &mut forces);
     if in_block {
         play::block(setup, heights, stiffness, drawn, &forces)
     } else {

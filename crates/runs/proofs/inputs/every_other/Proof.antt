@@ -8,10 +8,10 @@ use Rattle.runs.proofs.inputs.every_other.Statement.{statement}
 use Rattle.runs.proofs.inputs.every_other.Tie as tie
 
 abbrev Inv-loop : tie.InvT-loop
-Inv-loop x limit given start out₀ next₀ i₀ out next i = length out ≡ 128
+Inv-loop x limit unit given start out₀ next₀ i₀ out next i = length out ≡ 128
 
 abbrev μ-loop : tie.MeasureT-loop
-μ-loop x limit given start out₀ next₀ i₀ out next i = given - i
+μ-loop x limit unit given start out₀ next₀ i₀ out next i = given - i
 
 pub every-other-spec : {M : Type 1} → statement M
 every-other-spec =
