@@ -25,12 +25,12 @@ use Rattle.model.specs.System.{System, rounded₁, rounded₂}
 use Rattle.model.specs.State.{State, Lent, stateOf, put, Neck, Forces}
 use Rattle.model.specs.Step.{gradients, A, c, system, moves, workedStep, nextState, callRules, resultRules, stepRules, frame, step}
 use Rattle.model.specs.Energy.{storedEnergy, dotAll, loss, work, residuals, limits, roundingWork, roundingLimit}
-use Rattle.model.specs.Run.{Voice, voice, history, acceptedSteps, voiceAfter, sumOver}
+use Rattle.model.specs.Run.{Voice, voice, call, history, acceptedSteps, voiceAfter, sumOver}
 use Rattle.model.specs.Block.{BlockResult, play, blockRules, block}
 use Rattle.model.specs.Bench.{benchSetup, flatNeck, finger, restingFinger, onePoint, forces}
 use Rattle.model.specs.declared.Setup.{Setup}
 use Rattle.promises.specs.Promises.{Refuses, IsNearest, IsRounded, AreGradients, Solves, Run, flips, frameSamples, Plays, followedBy, PlaysNoPart, OddAlone, Shows, shown}
-use Rattle.promises.specs.Symmetry.{opposed, Mirrored}
+use Rattle.promises.specs.Symmetry.{NoContact, opposed, Contacts, Mirrored}
 
 -- ---- rounding
 
@@ -240,16 +240,41 @@ free = ((refl, refl), tt)
 
 -- ---- two runs, one the negative of the other
 
--- two ties of string and finger, and a step refused before them
-mirrored : let Fs = forces (pos 2000000000) (pos 0) ∷ forces (pos 6144) (pos 10240) ∷ [] in Mirrored (history (flatNeck 0) (benchVoice 4096 0 0 0 0 (pos 0)) Fs) (history (flatNeck 0) (benchVoice 4096 0 0 0 0 (pos 0)) (map opposed Fs))
-unfolding history stateOf put step stepRules callRules resultRules setupRules placeOk lengthOk between inside heightOk displacementOk contactOk forceOk
-    workedStep gradients gradient root greatest moves A c system rounded₁ rounded₂ nearest floor nextState plus minus times zipWith D1
+-- with losses; strings, heights and turn are all other than 0, and the contact variables are not negated
+moving : Voice
+moving = voice (benchSetup 1024 100 200 512 64) (onePoint (pos 3) (pos 5) (pos 7) 4 (finger (pos 2) (pos 1) (negℤ (pos 9))))
+
+mirror : Voice
+mirror = voice (benchSetup 1024 100 200 512 64) (onePoint (negℤ (pos 3)) (negℤ (pos 5)) (pos 8) 4 (finger (negℤ (pos 2)) (negℤ (pos 1)) (pos 0)))
+
+lowNeck : Neck
+lowNeck = record { heights = negℤ (pos 100) ∷ []; stiffness = 30000 ∷ [] }
+
+-- a step that is refused, and then ties of string and finger, 5/2 and 9/2
+mirrored : let Fs = forces (pos 2000000000) (pos 0) ∷ forces (pos 8176) (pos 10240) ∷ [] in Mirrored (history lowNeck moving Fs) (history lowNeck mirror (map opposed Fs))
+unfolding moving mirror lowNeck history stateOf put step stepRules callRules resultRules setupRules placeOk lengthOk between inside heightOk
+    displacementOk contactOk forceOk workedStep gradients gradient root greatest moves A c system rounded₁ rounded₂ nearest floor nextState plus
+    minus times zipWith D1
 mirrored = (
   equal 12 refl refl,
-  record { first = equal (pos 0 ∷ []) refl refl; second = equal (pos 0 ∷ []) refl refl; turn = equal 0 refl refl; height = equal (pos 0) refl refl; older-height = equal (pos 0) refl refl },
+  record { first = equal (negℤ (pos 3) ∷ []) refl refl; second = equal (negℤ (pos 5) ∷ []) refl refl; turn = equal 4 refl refl; height = equal (negℤ (pos 2)) refl refl; older-height = equal (negℤ (pos 1)) refl refl },
   (
     tt,
-    record { first = equal (pos 0 ∷ []) refl refl; second = equal (negℤ (pos 2) ∷ []) refl refl; turn = equal 1 refl refl; height = equal (negℤ (pos 2)) refl refl; older-height = equal (pos 0) refl refl },
+    record { first = equal (negℤ (pos 5) ∷ []) refl refl; second = equal (negℤ (pos 5) ∷ []) refl refl; turn = equal 0 refl refl; height = equal (negℤ (pos 5)) refl refl; older-height = equal (negℤ (pos 2)) refl refl },
     tt,
   ),
 )
+
+-- stiffness 64 at the depth 16 has the least gradient above zero, 8: the string on the neck, and the finger on the string
+touching : NoContact (flatNeck 64) (call (flatNeck 64) (voice (benchSetup 1 0 0 0 0) (onePoint (negℤ (pos 16)) (pos 0) (pos 0) 0 restingFinger)) none) → ⊥
+unfolding gradients gradient root greatest stateOf minus zipWith
+touching h = h .points .0 .le
+
+pressed-by-the-finger : NoContact (flatNeck 0) (call (flatNeck 0) (voice (benchSetup 1 0 0 0 64) (onePoint (pos 16) (pos 0) (pos 0) 0 restingFinger)) none) → ⊥
+unfolding gradients gradient root greatest stateOf minus zipWith
+pressed-by-the-finger h = h .finger .le
+
+-- a contact variable out of range, of either voice
+out-of-range : let v = onePoint (pos 0) (pos 0) (pos 0) 0 restingFinger in let beyond = onePoint (pos 0) (pos 0) (pos 67108865) 0 restingFinger in (Contacts v beyond → ⊥) × (Contacts beyond v → ⊥)
+unfolding contactOk inside
+out-of-range = (λ h. h .other, λ h. h .one)
