@@ -84,16 +84,45 @@ typedef struct {
     int64_t string[127], contact[127], height, finger_contact;
 } outcome;
 
-/* The two-by-two system at p: answers the point's move. */
-static int64_t move_at_finger(sv_setup s, sv_finger finger, int64_t own, int64_t A, int64_t c, int32_t finger_force, outcome *next)
+/* A point's equation: A and c without what its contact adds, the contact's gradient and variable. */
+typedef struct {
+    int64_t A, c, G, psi;
+} point;
+
+static int pulls(int64_t gradient, int64_t sum) { return gradient > 0 && sum < 0; }
+
+static int64_t move_of(const point *x) { return nearest(x->c + 2 * x->G * x->psi, x->A + x->G * x->G); }
+
+/* Away from p: answers the move, worked out again without the contact where that pulls. */
+static int64_t settle(point *x)
 {
-    int64_t g = gradient(s.finger_stiffness, own - finger.newer), gg = g * g, mass = s.finger_mass, phi = finger.contact;
-    int64_t a11 = A + gg, a22 = mass + gg, b1 = c - 2 * g * phi;
-    int64_t b2 = 2 * mass * ((int64_t)finger.newer - finger.older) + finger_force + 2 * g * phi;
-    int64_t det = a11 * a22 - gg * gg, finger_move = nearest(a11 * b2 + gg * b1, det), move = nearest(b1 * a22 + gg * b2, det);
-    next->height = finger.older + finger_move;
-    next->finger_contact = phi + g * (move - finger_move);
+    int64_t move = move_of(x);
+    if (pulls(x->G, 2 * x->psi - x->G * move)) {
+        x->G = 0;
+        move = move_of(x);
+    }
     return move;
+}
+
+/* The two-by-two system at p, worked out again without the contacts that pull until none does: answers the point's move. */
+static int64_t settle_at_finger(sv_setup s, sv_finger finger, int64_t own, int32_t finger_force, point *x, outcome *next)
+{
+    int64_t g = gradient(s.finger_stiffness, own - finger.newer), phi = own > finger.newer ? finger.contact : 0, mass = s.finger_mass;
+    for (;;) {
+        int64_t gg = g * g, a11 = x->A + x->G * x->G + gg, a22 = mass + gg, b1 = x->c + 2 * x->G * x->psi - 2 * g * phi;
+        int64_t b2 = 2 * mass * ((int64_t)finger.newer - finger.older) + finger_force + 2 * g * phi;
+        int64_t det = a11 * a22 - gg * gg, finger_move = nearest(a11 * b2 + gg * b1, det), move = nearest(b1 * a22 + gg * b2, det);
+        int dropped = pulls(x->G, 2 * x->psi - x->G * move), finger_dropped = pulls(g, 2 * phi + g * (move - finger_move));
+        if (!dropped && !finger_dropped) {
+            next->height = finger.older + finger_move;
+            next->finger_contact = phi + g * (move - finger_move);
+            return move;
+        }
+        if (dropped)
+            x->G = 0;
+        if (finger_dropped)
+            g = 0;
+    }
 }
 
 static void work_out(sv_setup s, const int32_t *heights, const uint16_t *stiffness, const int32_t *u, const int32_t *v, const int32_t *contact,
@@ -102,15 +131,15 @@ static void work_out(sv_setup s, const int32_t *heights, const uint16_t *stiffne
     int64_t string[130], d1[130], change[130];
     differences(s.segments - 1, u, v, string, d1, change);
     for (size_t i = 1; i < s.segments; i++) {
-        int64_t G = gradient(stiffness[i - 1], heights[i - 1] - string[i]);
-        int64_t A = 4096 + s.plain + G * G;
-        int64_t c = 8192 * change[i] + (int64_t)s.tension * d1[i] - (int64_t)s.stiffness * (d1[i - 1] - 2 * d1[i] + d1[i + 1])
-            + (int64_t)s.viscous * (change[i - 1] - 2 * change[i] + change[i + 1]) + 2 * G * contact[i - 1];
+        int64_t depth = heights[i - 1] - string[i];
+        point x = {.A = 4096 + s.plain, .G = gradient(stiffness[i - 1], depth), .psi = depth > 0 ? contact[i - 1] : 0};
+        x.c = 8192 * change[i] + (int64_t)s.tension * d1[i] - (int64_t)s.stiffness * (d1[i - 1] - 2 * d1[i] + d1[i + 1])
+            + (int64_t)s.viscous * (change[i - 1] - 2 * change[i] + change[i + 1]);
         if (i == s.pluck_place)
-            c += pluck;
-        int64_t move = i == s.finger_place ? move_at_finger(s, finger, string[i], A, c, finger_force, next) : nearest(c, A);
+            x.c += pluck;
+        int64_t move = i == s.finger_place ? settle_at_finger(s, finger, string[i], finger_force, &x, next) : settle(&x);
         next->string[i - 1] = v[i - 1] + move;
-        next->contact[i - 1] = contact[i - 1] - G * move;
+        next->contact[i - 1] = x.psi - x.G * move;
     }
 }
 

@@ -268,6 +268,32 @@ void draw_state(voice *v, size_t points, unsigned changes)
     lent_settle(v->contact);
 }
 
+/* The lighter the finger, the more often the string's contact at p is dropped first and then the finger's; the other way round it is rare. */
+void draw_pressed(voice *v)
+{
+    static const uint32_t masses[] = {1, 16, 256, 1024};
+    size_t points = draw_setup(&v->setup, 0);
+    draw_neck(v, points, 0);
+    draw_state(v, points, 0);
+    v->setup.finger_mass = masses[draw_below(4)];
+    v->setup.finger_stiffness = (uint16_t)draw_between(3000, 65535);
+    lent *strings[] = {v->turn == 0 ? v->first : v->second, v->turn == 0 ? v->second : v->first};
+    int32_t *heights = lent_numbers(v->heights), *newer = lent_numbers(strings[0]), *older = lent_numbers(strings[1]), *contact = lent_numbers(v->contact);
+    uint16_t *stiffness = lent_numbers(v->stiffness);
+    for (size_t i = 0; i < points; i++) {
+        heights[i] = draw_between(-30, 0);
+        stiffness[i] = (uint16_t)draw_between(3000, 65535);
+        newer[i] = heights[i] - draw_between(1, 50);
+        older[i] = newer[i] + draw_between(-50, 50);
+        contact[i] = draw_between(-400, 400);
+    }
+    int32_t height = newer[v->setup.finger_place - 1] - draw_between(1, 50);
+    v->finger = (sv_finger){height, height + draw_between(-50, 50), draw_between(-400, 400)};
+    lent *buffers[] = {v->heights, v->stiffness, v->first, v->second, v->contact};
+    for (int i = 0; i < 5; i++)
+        lent_settle(buffers[i]);
+}
+
 /* Often some halves of what divides it, which is 4096 + Z or the finger's mass: with an odd number of them it makes a tie. */
 int32_t draw_force(const sv_setup *s, uint32_t greatest, unsigned changes)
 {

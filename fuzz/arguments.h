@@ -30,6 +30,7 @@ size_t draw_setup(sv_setup *setup, unsigned changes); /* the points */
 void draw_plan(neck_plan *plan, size_t points, unsigned changes);
 void draw_neck(voice *v, size_t points, unsigned changes);
 void draw_state(voice *v, size_t points, unsigned changes);
+void draw_pressed(voice *v); /* all in order: small numbers by which string and finger are both in contact, and often pull at p */
 void draw_forces(lent *forces, lent *samples, const sv_setup *setup, uint32_t most_steps, uint32_t greatest, unsigned changes);
 
 int32_t within(int64_t number, int32_t end); /* the number, or the end of its range, -end to end, that is next to it */

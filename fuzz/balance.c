@@ -1,4 +1,4 @@
-/* 01, 'One step' and 'Energy': the residuals, contact variables and energies of one accepted step. */
+/* 01, 'One step' and 'Energy', with 02's item 3: the residuals, contact variables and energies of one accepted step. */
 #include "balance.h"
 #include <stdio.h>
 #include <string.h>
@@ -7,21 +7,20 @@
 balance_tally balanced;
 static char wrong[200];
 
-/* An accepted step: its equations, and its moves at the places 0 to N, which are 0 at both ends. */
+/* An accepted step: the equations of its last working, and its moves at the places 0 to N, which are 0 at both ends. */
 typedef struct {
     const made_step *step;
-    equations e;
+    const equations *e;
     int64_t moves[PLACES], finger_move;
     int on_neck, at_limit;
     wide rounding_work;
 } account;
 
-static void open_account(account *a, const made_step *step)
+static void open_account(account *a, const made_step *step, const equations *last)
 {
     const voice_state *before = &step->given.before, *after = &step->after;
-    *a = (account){.step = step};
-    work_out(&a->e, &step->given);
-    for (size_t i = 1; i < a->e.N; i++)
+    *a = (account){.step = step, .e = last};
+    for (size_t i = 1; i < last->N; i++)
         a->moves[i] = (int64_t)after->newer[i - 1] - before->older[i - 1];
     a->finger_move = (int64_t)after->finger.newer - before->finger.older;
 }
@@ -41,7 +40,7 @@ static int book_residual(account *a, const char *equation, size_t i, int64_t res
 /* The two equations at p. */
 static int book_finger(account *a)
 {
-    const equations *e = &a->e;
+    const equations *e = a->e;
     int64_t gg = e->g * e->g, A = e->A[e->p], string_move = a->moves[e->p], finger_move = a->finger_move;
     int64_t first = (A + gg) * string_move - gg * finger_move - e->string_side, second = -gg * string_move + (e->m + gg) * finger_move - e->finger_side;
     return book_residual(a, "string's", e->p, first, A + 2 * gg, string_move) && book_residual(a, "finger's", e->p, second, e->m + 2 * gg, finger_move);
@@ -49,7 +48,7 @@ static int book_finger(account *a)
 
 static int residuals_kept(account *a)
 {
-    const equations *e = &a->e;
+    const equations *e = a->e;
     for (size_t i = 1; i < e->N; i++) {
         a->on_neck |= e->G[i] > 0;
         if (i == e->p ? !book_finger(a) : !book_residual(a, "string's", i, e->A[i] * a->moves[i] - e->c[i], e->A[i], a->moves[i]))
@@ -61,38 +60,42 @@ static int residuals_kept(account *a)
 static int newer_kept(const account *a)
 {
     const voice_state *before = &a->step->given.before, *after = &a->step->after;
-    if (!memcmp(after->older, before->newer, (a->e.N - 1) * sizeof(int32_t)) && after->finger.older == before->finger.newer)
+    if (!memcmp(after->older, before->newer, (a->e->N - 1) * sizeof(int32_t)) && after->finger.older == before->finger.newer)
         return 1;
     snprintf(wrong, sizeof wrong, "the string or the finger's height that was newer is not the older one now");
     return 0;
 }
 
-static int contacts_follow(const account *a)
+/* Whether a contact's new variable follows from the old one, cleared, and its change; and whether the contact does not pull. */
+static int contact_right(const char *whose, size_t i, int64_t slope, int64_t old, int64_t change, int64_t new)
 {
-    const voice_state *before = &a->step->given.before, *after = &a->step->after;
-    for (size_t i = 1; i < a->e.N; i++)
-        if (after->contact[i - 1] != before->contact[i - 1] - a->e.G[i] * a->moves[i]) {
-            snprintf(wrong, sizeof wrong, "the contact variable at place %zu is %d and does not follow from %d", i, after->contact[i - 1],
-                     before->contact[i - 1]);
-            return 0;
-        }
-    int64_t apart = a->moves[a->e.p] - a->finger_move;
-    if (after->finger.contact == before->finger.contact + a->e.g * apart)
+    if (new == old + change && slope * (old + new) >= 0)
         return 1;
-    snprintf(wrong, sizeof wrong, "the finger's contact variable is %d and does not follow from %d", after->finger.contact, before->finger.contact);
+    snprintf(wrong, sizeof wrong, "the %s contact variable at place %zu is %lld after %lld: the gradient is %lld, and the change that follows %lld", whose, i,
+             (long long)new, (long long)old, (long long)slope, (long long)change);
     return 0;
+}
+
+static int contacts_right(const account *a)
+{
+    const equations *e = a->e;
+    const voice_state *after = &a->step->after;
+    for (size_t i = 1; i < e->N; i++)
+        if (!contact_right("string's", i, e->G[i], e->psi[i], -e->G[i] * a->moves[i], after->contact[i - 1]))
+            return 0;
+    return contact_right("finger's", e->p, e->g, e->phi, e->g * (a->moves[e->p] - a->finger_move), after->finger.contact);
 }
 
 static wide loss(const account *a)
 {
     const sv_setup *s = &a->step->given.setup;
     wide squares = 0, rises = 0;
-    for (size_t i = 1; i <= a->e.N; i++) {
+    for (size_t i = 1; i <= a->e->N; i++) {
         int64_t rise = a->moves[i] - a->moves[i - 1];
         squares += a->moves[i] * a->moves[i];
         rises += rise * rise;
     }
-    return 2 * (wide)s->plain * squares + (wide)s->viscous * rises;
+    return 2 * (wide)s->plain * squares + (wide)s->viscous * rises + a->e->gone.energy;
 }
 
 static wide work(const account *a)
@@ -116,18 +119,18 @@ static int energy_balanced(const account *a)
     return 0;
 }
 
-const char *balance_fault(const made_step *step)
+const char *balance_fault(const made_step *step, const equations *last)
 {
     account a;
-    open_account(&a, step);
-    if (!newer_kept(&a) || !residuals_kept(&a) || !contacts_follow(&a) || !energy_balanced(&a))
+    open_account(&a, step, last);
+    if (!newer_kept(&a) || !residuals_kept(&a) || !contacts_right(&a) || !energy_balanced(&a))
         return wrong;
-    const char *unrounded = nearest_fault(&a.e, a.moves, a.finger_move);
+    const char *unrounded = nearest_fault(last, a.moves, a.finger_move);
     if (unrounded)
         return unrounded;
     balanced.steps++;
     balanced.on_neck += a.on_neck;
-    balanced.under_finger += a.e.g > 0;
+    balanced.under_finger += last->g > 0;
     balanced.at_limit += a.at_limit;
     return NULL;
 }

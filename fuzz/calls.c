@@ -3,6 +3,7 @@
 #include <string.h>
 #include "balance.h"
 #include "fault.h"
+#include "pulling.h"
 #include "rules.h"
 
 typeof(sv_step) plain_step;
@@ -172,23 +173,39 @@ typedef struct {
     int32_t newer[127], older[127], contact[127];
 } kept;
 
-/* The same state out of reach of the library; of longer buffers, which no step accepts, as much as there is room for. */
+/* How many bytes of a buffer are kept: of longer ones, which no step accepts, as much as there is room for. */
+static size_t kept_bytes(const lent *buffer) { return (buffer->length < 127 ? buffer->length : 127) * sizeof(int32_t); }
+
+/* The same state out of reach of the library. */
 static voice_state kept_state_of(const voice *v, kept *k)
 {
-    size_t first = v->first->length, second = v->second->length, contact = v->contact->length, room = 127;
-    size_t newer = v->turn == 0 ? first : second, older = v->turn == 0 ? second : first;
     voice_state state = state_of(v);
-    memcpy(k->newer, state.newer, (newer < room ? newer : room) * sizeof(int32_t));
-    memcpy(k->older, state.older, (older < room ? older : room) * sizeof(int32_t));
-    memcpy(k->contact, state.contact, (contact < room ? contact : room) * sizeof(int32_t));
+    memcpy(k->newer, state.newer, kept_bytes(v->turn == 0 ? v->first : v->second));
+    memcpy(k->older, state.older, kept_bytes(v->turn == 0 ? v->second : v->first));
+    memcpy(k->contact, state.contact, kept_bytes(v->contact));
     return (voice_state){k->newer, k->older, k->contact, v->finger};
 }
 
-static void check_balance(const voice *v, voice_state before, int32_t pluck, int32_t finger_force)
+/* A refused step leaves the state, whatever its oracle has to say; nor are contact variables cleared. */
+static void state_left(const voice *v, const voice_state *before)
+{
+    const lent *newer = v->turn == 0 ? v->first : v->second, *older = v->turn == 0 ? v->second : v->first;
+    if (memcmp(lent_numbers(newer), before->newer, kept_bytes(newer)) || memcmp(lent_numbers(older), before->older, kept_bytes(older))
+        || memcmp(lent_numbers(v->contact), before->contact, kept_bytes(v->contact)))
+        fault("a refused step changed a buffer");
+    same_finger(v->finger, before->finger);
+}
+
+/* A step that was judged by its moves: its answer, and what it did if it was accepted. */
+static void check_moves(const voice *v, voice_state before, int32_t pluck, int32_t finger_force, uint32_t refusal)
 {
     made_step made = {step_given(v, pluck, finger_force), state_of(v)};
+    equations last;
     made.given.before = before;
-    const char *wrong = balance_fault(&made);
+    work_out(&last, &made.given);
+    const char *wrong = pulling_fault(&made.given, &last, refusal);
+    if (!wrong && refusal == 0)
+        wrong = balance_fault(&made, &last);
     if (wrong)
         fault("%s", wrong);
 }
@@ -212,11 +229,15 @@ uint32_t call_step(voice *v, int32_t pluck, int32_t finger_force, sv_frame *fram
     same_bits("the frame's bridge", &answered.frame.bridge, &expected.frame.bridge, sizeof expected.frame.bridge);
     same_bits("the frame's neck", &answered.frame.neck, &expected.frame.neck, sizeof expected.frame.neck);
     voice_agrees(v);
+    if (answered.refusal)
+        same("turn after a refusal", answered.turn, v->turn);
     v->turn = answered.turn;
     v->finger = answered.finger;
     *frame = answered.frame;
-    if (answered.refusal == 0)
-        check_balance(v, before, pluck, finger_force);
+    if (answered.refusal)
+        state_left(v, &before);
+    if (answered.refusal == 0 || answered.refusal == 13 || answered.refusal == 14)
+        check_moves(v, before, pluck, finger_force, answered.refusal);
     return answered.refusal;
 }
 

@@ -8,6 +8,7 @@
 #include "fault.h"
 #include "mirror.h"
 #include "nearest.h"
+#include "pulling.h"
 #include "rules.h"
 #include "ties.h"
 
@@ -107,6 +108,13 @@ static void single_tie(void)
     call_step(&v, pluck, finger_force, &frame);
 }
 
+static void single_pressed(void)
+{
+    sv_frame frame;
+    draw_pressed(&v);
+    call_step(&v, draw_force(&v.setup, 200000, 0), draw_force(&v.setup, 200000, 0), &frame);
+}
+
 static void single_block(void)
 {
     unsigned changes = draw_changes(SETUP | LENGTH | HEIGHT | STATE | FORCES | COUNTS);
@@ -199,7 +207,7 @@ static void two_runs(void) { mirrored_runs(&v); }
 static const struct {
     void (*calls)(void);
     uint32_t share;
-} kinds[] = {{single_step, 17}, {single_reading, 9}, {single_neck, 8}, {single_setup, 6}, {single_start, 6}, {single_bound, 6},
+} kinds[] = {{single_step, 13}, {single_reading, 9}, {single_neck, 8}, {single_setup, 6}, {single_start, 6}, {single_bound, 6}, {single_pressed, 4},
              {single_tie, 4},   {single_block, 4},   {single_vast, 1}, {run_of_calls, 1}, {two_runs, 1},     {single_newest, 1}};
 
 static void draw_calls(void)
@@ -231,8 +239,34 @@ static void print_ties(void)
     printf("ties; solution above 0 and its even neighbour below, above; below 0 and below, above\n");
     for (int place = 0; place < TIE_PLACES; place++)
         printf("%-25s%10llu%10llu%10llu%10llu\n", places[place], ties[place][1][1], ties[place][1][0], ties[place][0][1], ties[place][0][0]);
-    printf("mirrored runs: %llu pairs; pairs of steps that moved %llu, of these with a tie %llu; refused %llu\n", mirrored.pairs, mirrored.moved, mirrored.tied,
-           mirrored.refused);
+    printf("mirrored runs: %llu pairs; pairs of steps that moved %llu, of these with a tie %llu, with a contact dropped %llu; refused %llu\n", mirrored.pairs,
+           mirrored.moved, mirrored.tied, mirrored.dropped, mirrored.refused);
+}
+
+/* Steps by the contacts that they cleared and dropped, with what must be met of each. */
+static const struct {
+    const char *what;
+    const unsigned long long *number;
+} contact_kinds[] = {
+    {"accepted with a variable cleared at a point", &pulling.cleared},
+    {"with the finger's cleared", &pulling.finger_cleared},
+    {"with a contact dropped away from p", &pulling.away},
+    {"at p, the string's alone", &pulling.at_p[1][0]},
+    {"at p, the finger's alone", &pulling.at_p[0][1]},
+    {"at p, both together", &pulling.at_p[1][1]},
+    {"at p in three workings, the string's first", &pulling.at_p[1][2]},
+    {"at p in three workings, the finger's first", &pulling.at_p[2][1]},
+    {"accepted, the first moves would be refused", &pulling.let_through},
+    {"refused, the first moves would be accepted", &pulling.stopped},
+    {"refused with 13 or 14, nothing cleared", &pulling.kept},
+};
+enum { CONTACT_KINDS = sizeof contact_kinds / sizeof *contact_kinds };
+
+static void print_contacts(void)
+{
+    printf("steps by the contacts cleared and dropped\n");
+    for (int kind = 0; kind < CONTACT_KINDS; kind++)
+        printf("%-45s%10llu\n", contact_kinds[kind].what, *contact_kinds[kind].number);
 }
 
 static void print_table(void)
@@ -254,6 +288,7 @@ static void print_table(void)
            balanced.under_finger, balanced.at_limit, balanced.lossy, balanced.worked);
     printf("bounds met to the unit: of 13 %llu, of 14 %llu\n", bounds_met[13], bounds_met[14]);
     printf("blocks begun with a surplus of samples: odd %llu, even %llu; stopped by a step's refusal %llu\n", surpluses.odd, surpluses.even, surpluses.stopped);
+    print_contacts();
     print_ties();
 }
 
@@ -264,14 +299,17 @@ static int met(unsigned long long number, const char *what)
     return number > 0;
 }
 
-/* Whether each kind of tie was met, each kind of surplus, and each kind of mirrored steps. */
+/* Whether each kind of tie was met, of contacts cleared and dropped, of surplus, and of mirrored steps. */
 static int kinds_met(void)
 {
     int all = 1;
     for (int kind = 0; kind < 4 * TIE_PLACES; kind++)
         all &= met(ties[kind / 4][kind / 2 % 2][kind % 2], "a kind of tie");
+    for (int kind = 0; kind < CONTACT_KINDS; kind++)
+        all &= met(*contact_kinds[kind].number, contact_kinds[kind].what);
     all &= met(surpluses.odd, "an odd surplus of samples") & met(surpluses.even, "an even surplus of samples");
     all &= met(surpluses.stopped, "a block with a surplus of samples that is stopped");
+    all &= met(mirrored.dropped, "mirrored steps with a contact dropped");
     return all & met(mirrored.moved, "mirrored steps") & met(mirrored.tied, "mirrored ties") & met(mirrored.refused, "mirrored refusals");
 }
 

@@ -1,4 +1,4 @@
-/* Two runs of steps, one the mirror of the other: as long as no gradient is above 0 in either, each must stay the negative of the other. */
+/* Two runs of steps, one the mirror of the other: as long as no gradient of the last moves is above 0 in either, each must stay the negative of the other. */
 #include "mirror.h"
 #include <string.h>
 #include "draw.h"
@@ -71,11 +71,13 @@ static voice draw_mirror(const voice *v, size_t points)
     return mirror;
 }
 
-static int touches(const voice *v)
+/* Whether a contact is left in the last working of a step; counts in `dropped` one whose contacts were all dropped. */
+static int touches(const voice *v, int32_t pluck, int32_t finger_force, int *dropped)
 {
     equations e;
-    given_step step = step_given(v, 0, 0);
+    given_step step = step_given(v, pluck, finger_force);
     work_out(&e, &step);
+    *dropped += any_dropped(&e);
     return any_contact(&e);
 }
 
@@ -108,12 +110,13 @@ static void draw_both_forces(const voice *v, uint32_t greatest, int32_t *pluck, 
     *finger_force = *finger_force < -INT32_MAX ? -INT32_MAX : *finger_force;
 }
 
-static void count(const voice *v, uint32_t refusal, unsigned long long new_ties)
+static void count(const voice *v, uint32_t refusal, unsigned long long new_ties, int dropped)
 {
     size_t bytes = v->first->length * sizeof(int32_t);
     int moved = refusal == 0 && (v->finger.newer != v->finger.older || memcmp(lent_numbers(v->first), lent_numbers(v->second), bytes));
     mirrored.moved += (unsigned)moved;
     mirrored.tied += moved && new_ties > 0;
+    mirrored.dropped += moved && dropped > 0;
     mirrored.refused += refusal != 0;
 }
 
@@ -123,15 +126,18 @@ void mirrored_runs(voice *v)
     voice mirror = draw_mirror(v, points);
     uint32_t greatest = (uint32_t)FORCE >> draw_below(25), refusal = 0;
     mirrored.pairs++;
-    for (uint32_t steps = 1 + draw_below(one_in(8) ? 200 : 24); steps > 0 && !(refusal >= 13 && one_in(3)) && !touches(v) && !touches(&mirror); steps--) {
+    for (uint32_t steps = 1 + draw_below(one_in(8) ? 200 : 24); steps > 0 && !(refusal >= 13 && one_in(3)); steps--) {
         int32_t pluck, finger_force;
+        int dropped = 0;
         sv_frame frame;
         unsigned long long ties_before = ties_met;
         draw_both_forces(v, greatest, &pluck, &finger_force);
+        if (touches(v, pluck, finger_force, &dropped) || touches(&mirror, -pluck, -finger_force, &dropped))
+            return;
         refusal = call_step(v, pluck, finger_force, &frame);
         if (call_step(&mirror, -pluck, -finger_force, &frame) != refusal)
             fault("refused otherwise than %u, the refusal of the step that it mirrors", refusal);
         stays_mirrored(v, &mirror);
-        count(v, refusal, ties_met - ties_before);
+        count(v, refusal, ties_met - ties_before, dropped);
     }
 }

@@ -71,27 +71,40 @@ static void prepare(voice *v, const note *n, double seconds)
     v->playing = n;
 }
 
-/* The frets that the string touched in a block: it lies on them now, or their contact variables changed, as they do in contact only. */
-static uint32_t frets_touched(const voice *v, const int32_t contact_before[POINTS], double seconds)
+static uint32_t frets_pressed(const voice *v, double seconds)
 {
-    uint32_t touched = 0;
+    uint32_t pressed = 0;
     for (uint32_t i = 0; i < FRETS; i++) {
-        uint32_t place = fret_places[i];
-        sv_reading r = sv_read_place(v->setup, v->heights, POINTS, v->first, POINTS, v->second, POINTS, v->turn, place);
+        sv_reading r = sv_read_place(v->setup, v->heights, POINTS, v->first, POINTS, v->second, POINTS, v->turn, fret_places[i]);
         if (r.refusal)
             refused("sv_read_place", r.refusal, seconds);
-        if (r.pressed || v->contact[place - 1] != contact_before[place - 1])
-            touched |= (uint32_t)1 << i;
+        pressed |= (uint32_t)(r.pressed != 0) << i;
+    }
+    return pressed;
+}
+
+/* The frets that the string touches in a block. A contact that ends inside a block leaves no trace, so the steps are made one by one beforehand, on a copy. */
+static uint32_t frets_touched(voice copy, const int32_t *forces, size_t steps, double seconds)
+{
+    uint32_t touched = 0;
+    for (size_t i = 0; i < steps; i++) {
+        sv_stepped s = sv_step(copy.setup, copy.heights, POINTS, copy.stiffness, POINTS, copy.first, POINTS, copy.second, POINTS, copy.contact, POINTS, copy.turn,
+                               copy.finger, forces[2 * i], forces[2 * i + 1]);
+        seconds += 1.0 / RATE;
+        if (s.refusal)
+            refused("sv_step", s.refusal, seconds);
+        copy.turn = s.turn;
+        copy.finger = s.finger;
+        touched |= frets_pressed(&copy, seconds);
     }
     return touched;
 }
 
-static void keep(const voice *v, take *t, size_t block, const int32_t contact_before[POINTS])
+static void keep(const voice *v, take *t, size_t block)
 {
     int second_is_newer = sv_newest(v->turn) == 1;
     const int32_t *newer = second_is_newer ? v->second : v->first, *older = second_is_newer ? v->first : v->second;
     t->energy[block] = joules_of_units(stored_energy(v->setup, newer, older, v->contact, v->finger));
-    t->touched[block] = frets_touched(v, contact_before, start_of_block(block + 1));
     for (int i = 0; i < POINTS; i++)
         if (abs(newer[i]) > t->largest)
             t->largest = abs(newer[i]);
@@ -103,10 +116,10 @@ static void play_block(voice *v, take *t, size_t block, float driver[2 * BLOCK])
     double seconds = start_of_block(block);
     const note *n = note_at(seconds);
     size_t steps = steps_of_block(block);
-    int32_t forces[2 * BLOCK], contact_before[POINTS];
+    int32_t forces[2 * BLOCK];
     prepare(v, n, seconds);
     player_forces(n, seconds, v->finger, steps, forces);
-    memcpy(contact_before, v->contact, sizeof contact_before);
+    t->touched[block] = frets_touched(*v, forces, steps, seconds);
     double start = now();
     sv_played p = sv_play_block(v->setup, v->heights, POINTS, v->stiffness, POINTS, v->first, POINTS, v->second, POINTS, v->contact, POINTS, v->turn, v->finger,
                                 forces, 2 * steps, driver, 2 * BLOCK);
@@ -117,7 +130,7 @@ static void play_block(voice *v, take *t, size_t block, float driver[2 * BLOCK])
     memcpy(t->samples + 2 * BLOCK * block, driver, sizeof(float[2 * BLOCK]));
     v->turn = p.turn;
     v->finger = p.finger;
-    keep(v, t, block, contact_before);
+    keep(v, t, block);
 }
 
 /* On a terminal one line that changes, otherwise a line for each note. */

@@ -7,11 +7,12 @@ import struct
 from dataclasses import dataclass
 from pathlib import Path
 
+from string_voice.moves import Finger
 from string_voice.neck import lay_neck
 from string_voice.playing import newest, play_block, read_place
 from string_voice.ranges import Refused
 from string_voice.setup import Setup, check_setup
-from string_voice.step import Finger, fresh_start, step
+from string_voice.step import fresh_start, step
 
 
 @dataclass(frozen=True)
@@ -54,9 +55,19 @@ def refusal_of(call):
     return int(words[0]) if words[0].isdigit() else 0
 
 
+def copied(call):
+    """The arguments of a call, to be written into."""
+    return {label: list(numbers) for label, numbers in call.arguments.items()}
+
+
+def stepped(call):
+    """An accepted step, made on a copy of its arguments."""
+    return step_of(**copied(call))
+
+
 def answer(call):
     """What the reference answers, and the lent buffers after the call."""
-    arguments = {label: list(numbers) for label, numbers in call.arguments.items()}
+    arguments = copied(call)
     try:
         answered = OPERATIONS[call.operation](**arguments)
     except Refused as refused:
@@ -94,9 +105,13 @@ def answer_start(setup, first, second, contact, heights):
     return f"0 turn {turn} {finger_text(finger)}"
 
 
-def answer_step(setup, heights, stiffness, first, second, contact, turn, finger, forces):
-    stepped = step(Setup(*setup), heights, stiffness, first, second, contact, turn[0], Finger(*finger), *forces)
-    return f"0 turn {stepped.turn} {finger_text(stepped.finger)} {labelled('frame', map(single_bits, stepped.frame))}"
+def step_of(setup, heights, stiffness, first, second, contact, turn, finger, forces):
+    return step(Setup(*setup), heights, stiffness, first, second, contact, turn[0], Finger(*finger), *forces)
+
+
+def answer_step(**arguments):
+    made = step_of(**arguments)
+    return f"0 turn {made.turn} {finger_text(made.finger)} {labelled('frame', map(single_bits, made.frame))}"
 
 
 def answer_block(setup, heights, stiffness, first, second, contact, turn, finger, forces, samples):

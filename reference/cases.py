@@ -1,4 +1,5 @@
-"""Writes cases/stdin, calls at the boundaries of document 01 and at ties, and cases/stdout, the reference's answers to them, into crates/ or a folder named.
+"""Writes cases/stdin, calls at the boundaries of document 01, at ties and with contacts that pull, and cases/stdout, the reference's answers to them, into
+crates/ or a folder named.
 
 Each refusal number of each operation is given just outside its boundary, withheld on it, and beaten by each earlier number of the operation's
 order. The numbers in the tables below are 01's; a call to which the reference answers another number stops the writing.
@@ -7,48 +8,9 @@ order. The numbers in the tables below are 01's; a call to which the reference a
 import sys
 
 from calls import Call, answer, crates_folder, refusal_of
-
-U32 = 4_294_967_295
-N, L, M, S, Z, K, MASS, FINGER, PLUCK, BRIDGE, NECK = range(11)  # the fields of a setup
-
-
-def put(label, *changes):
-    """A change of some entries of an argument: index and value of each."""
-
-    def change(arguments):
-        numbers = list(arguments[label])
-        for index, value in changes:
-            numbers[index] = value
-        return arguments | {label: numbers}
-
-    return change
-
-
-def give(label, *numbers):
-    """A change of a whole argument."""
-    return lambda arguments: arguments | {label: list(numbers)}
-
-
-def cut(label):
-    """An argument without its last entry."""
-    return lambda arguments: arguments | {label: arguments[label][:-1]}
-
-
-def longer(label):
-    """An argument with an entry more."""
-    return lambda arguments: arguments | {label: [*arguments[label], 0]}
-
-
-def both(*changes):
-    """Changes one after the other."""
-
-    def change(arguments):
-        for one in changes:
-            arguments = one(arguments)
-        return arguments
-
-    return change
-
+from changes import BRIDGE, FINGER, K, L, M, MASS, N, NECK, PLUCK, PRESSED, S, SLACK, U32, UNDER_FINGER, Z
+from changes import bench_block, bench_setup, bench_step, both, cut, give, longer, put
+from contact_cases import all_contacts
 
 # ---- a call of each operation that is accepted
 
@@ -206,7 +168,9 @@ ACCEPTED = {
     + [both(give("forces", *([0] * 64)), give("samples", *([7] * 64)))]
     + [give("samples", *range(7, 7 + n)) for n in (7, 8, 128)]
     + [both(give("forces", 90000, -70000), give("samples", *range(7, 7 + n)), give("turn", turn)) for n in (3, 4, 9) for turn in (0, 1)]
-    + [both(give("forces"), give("samples", *range(7, 7 + n))) for n in (1, 2, 128)],
+    + [both(give("forces"), give("samples", *range(7, 7 + n))) for n in (1, 2, 128)]
+    # the point at 1 falls into the board at the second step, and would leave the range of 14 if the first had not cleared its variable
+    + [both(put("first", (0, 300_000)), put("second", (0, 900_000)), put("contact", (0, -67_000_000)))],
     "newest": [give("turn", n) for n in (0, 1, 2, U32)]
     + [both(give("turn", n), cut("first")) for n in (0, 1)]
     + [both(give("turn", n), give("second")) for n in (0, 1)],
@@ -221,26 +185,6 @@ ACCEPTED = {
 
 # ---- 01's 'Checked by hand', and the boundaries of 13 and 14 that follow from it
 
-BENCH = {"setup": [2, 4096, 0, 0, 0, 0, 4096, 1, 1, 1, 1]}
-BENCH_NECK = {"heights": [0], "stiffness": [0]}
-BENCH_REST = {"first": [0], "second": [0], "contact": [0], "turn": [0], "finger": [0, 0, 0]}
-SLACK = put("setup", (L, 1), (M, 0), (S, 0))
-
-
-def bench_setup(*changes):
-    return Call("setup", put("setup", *changes)(BENCH))
-
-
-def bench_step(pluck, finger_force=0, *changes):
-    return Call("step", both(*changes)(BENCH | BENCH_NECK | BENCH_REST | {"forces": [pluck, finger_force]}))
-
-
-def bench_block(*forces):
-    return Call("block", BENCH | BENCH_NECK | BENCH_REST | {"forces": list(forces), "samples": [7] * len(forces)})
-
-
-PRESSED = both(SLACK, give("stiffness", 64), give("first", -16), give("second", -16), give("contact", 1000))
-UNDER_FINGER = both(SLACK, put("setup", (K, 64)), give("first", 16), give("second", 16), give("finger", 0, 8, 0))
 BY_HAND = [
     (0, bench_block(4096, 0, 0, 0, 0, 0, 0, 0)),
     *((0, bench_step(pluck)) for pluck in (2048, 2047, -2048, -2049)),
@@ -291,15 +235,30 @@ def pressing(contact, pluck, finger_force):
     return bench_step(pluck, finger_force, UNDER_FINGER, give("finger", 0, 1 if contact > 0 else -1, contact))
 
 
+def sinking_far(psi):
+    """The string pressed with gradient 255, so that it moves by −526,344 and its contact variable from one end of the range to the other."""
+    pluck = 8192 * 263_172 - 69_121 * 526_344 - 32 - 510 * psi
+    return bench_step(pluck, 0, PRESSED, give("stiffness", 65_535), give("contact", psi), give("second", 263_156))
+
+
+def pressing_far(phi):
+    """The same of the finger: the string moves by 263,172, the finger by −263,172."""
+    force = 8192 * 131_586 - 134_146 * 263_172 - 510 * phi
+    return bench_step(32 - force, force, UNDER_FINGER, put("setup", (K, 65_535)), give("second", -131_570), give("finger", 0, 131_586, phi))
+
+
 BOUNDARIES = [
     *((number, bench_step(pluck, 0, FROM_BELOW)) for pluck, number in ((0, 0), (2048, 0), (2049, 13))),
     *((number, bench_step(pluck, 0, FROM_ABOVE)) for pluck, number in ((0, 0), (-2048, 0), (-2049, 13))),
     *((number, bench_step(0, force, FINGER_FROM_BELOW)) for force, number in ((0, 0), (2048, 0), (2049, 13))),
     *((number, bench_step(0, force, FINGER_FROM_ABOVE)) for force, number in ((0, 0), (-2048, 0), (-2049, 13))),
     *((number, sinking(psi, 12_192 - 16 * psi)) for psi, number in ((67_108_856, 0), (67_108_857, 14))),
-    *((number, sinking(psi, -12_256 - 16 * psi)) for psi, number in ((-67_108_856, 0), (-67_108_857, 14))),
+    *((number, sinking_far(psi)) for psi, number in ((-67_108_856, 0), (-67_108_855, 14))),
     *((number, pressing(phi, 96 + 16 * phi, 4032 - 16 * phi)) for phi, number in ((67_108_856, 0), (67_108_857, 14))),
-    *((number, pressing(phi, -32 + 16 * phi, -4032 - 16 * phi)) for phi, number in ((-67_108_856, 0), (-67_108_857, 14))),
+    *((number, pressing_far(phi)) for phi, number in ((-67_108_856, 0), (-67_108_855, 14))),
+    # a contact that would take its variable to the lower end of the range, or below it, pulls
+    *((0, sinking(psi, -12_256 - 16 * psi)) for psi in (-67_108_856, -67_108_857)),
+    *((0, pressing(phi, -32 + 16 * phi, -4032 - 16 * phi)) for phi in (-67_108_856, -67_108_857)),
 ]
 
 # the first step of a block is made, the second is refused: 12, 13, 14; with as many samples as forces, and with more
@@ -308,7 +267,8 @@ LATER = [
     (12, give("forces", 5, 6, 0, -1_073_741_825, 0, 0)),
     (13, put("finger", (0, 400_000), (1, 0))),
     (13, SLACK, give("forces", 0, 0, 1_073_741_824, 0, 0, 0), put("first", (0, 850_000)), put("second", (0, 850_000))),
-    (14, put("first", (0, 300_000)), put("second", (0, 900_000)), put("contact", (0, -67_000_000))),
+    # the point at 1 is in the board by 1, where its gradient is 0, and then deep in it
+    (14, SLACK, put("stiffness", (0, 1000)), put("first", (0, -51)), put("second", (0, 299_949)), put("contact", (0, -67_000_000))),
 ]
 
 
@@ -332,6 +292,8 @@ def all_calls():
         yield "boundary of 13 and 14", number, call
     for call in TIES:
         yield "ties", 0, call
+    for title, number, call in all_contacts():
+        yield f"contacts: {title}", number, call
     for number, *changes in LATER:
         yield f"block: {number} at a later step", number, Call("block", both(*changes)(GOOD["block"]))
     for number, *changes in LATER:

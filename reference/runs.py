@@ -1,13 +1,15 @@
 """Writes runs/stdout, into crates/ or a folder named: long runs on drawn setups, necks, fingers and forces, played by the reference.
 
 A run is stretches of 256 frames, each of them four parts of 64: a block, single steps, a block, single steps. The checksum of a run takes in every
-refusal, and after each part the turn, the finger, all buffers and all samples. The single steps must have made enough ties of every kind.
+refusal, and after each part the turn, the finger, all buffers and all samples. The steps must have made enough ties of every kind, and have cleared and
+dropped enough contacts of every kind.
 """
 
 import sys
 from collections import Counter
 from concurrent.futures import ProcessPoolExecutor
 from fractions import Fraction
+from itertools import pairwise
 from math import floor
 
 from calls import crates_folder, single_bits
@@ -16,22 +18,48 @@ from string_voice.neck import lay_neck
 from string_voice.playing import play_block
 from string_voice.ranges import Refused
 from string_voice.setup import check_setup
-from string_voice.step import fresh_start, state_of, step, work_out
+from string_voice.step import fresh_start, step
 
 RUNS = 48
 STRETCHES = 21
 ENOUGH = 100
-KINDS = [(where, above, even) for where in ("away from p", "at p", "of the finger") for above in (True, False) for even in (True, False)]
+TIES = [("tie", where, above, even) for where in ("away from p", "at p", "of the finger") for above in (True, False) for even in (True, False)]
+CLEARED = [("cleared", where) for where in ("at a point", "of the finger")]
+DROPPED = [("dropped", where) for where in ("away from p", "at p, the string's", "at p, the finger's", "at p, both together")]
 
 
 def ties_of(worked):
-    """The ties of a step: where each is, whether it is above 0, and whether the lower of its neighbours is the even one."""
+    """The ties of a working: where each is, whether it is above 0, and whether the lower of its neighbours is the even one."""
     solutions = [("at p", worked.exact_at_p), ("of the finger", worked.exact_finger)]
     p = worked.setup.finger_place
     for place, (A, c) in enumerate(zip(worked.factors, worked.right_sides)):
         if place != p and 2 * c % A == 0:
             solutions.append(("away from p", Fraction(c, A)))
-    return [(where, exact > 0, floor(exact) % 2 == 0) for where, exact in solutions if exact.denominator == 2]
+    return [("tie", where, exact > 0, floor(exact) % 2 == 0) for where, exact in solutions if exact.denominator == 2]
+
+
+def cleared_in(given, worked):
+    """The contact variables other than 0 that were cleared of the state passed in."""
+    points = sum(before != after for before, after in zip(given.contact, worked.state.contact))
+    of_finger = given.finger.contact != worked.state.finger.contact
+    return [("cleared", "at a point")] * points + [("cleared", "of the finger")] * of_finger
+
+
+def dropped_in(worked):
+    """The contacts that were dropped between a step's workings. A third one does not come up here: cases has steps with it."""
+    p = worked[0].setup.finger_place
+    for before, after in pairwise(worked):
+        points = {place for place, slopes in enumerate(zip(before.gradients.points, after.gradients.points)) if slopes[0] != slopes[1]}
+        string, finger = p in points, before.gradients.finger != after.gradients.finger
+        yield from [("dropped", "away from p")] * len(points - {p})
+        if string or finger:
+            yield "dropped", "at p, both together" if string and finger else "at p, the string's" if string else "at p, the finger's"
+
+
+def kinds_of(stepped):
+    """What is counted of a step."""
+    worked = stepped.workings
+    return [*ties_of(worked[-1]), *cleared_in(stepped.given, worked[0]), *dropped_in(worked)]
 
 
 class Run:
@@ -45,7 +73,7 @@ class Run:
         lay_neck(self.setup, *drawn_neck(self.generator, segments), self.heights, self.stiffness)
         self.first, self.second, self.contact = [0] * points, [0] * points, [0] * points
         self.samples = [0] * 128
-        self.steps, self.refused, self.checksum, self.ties = 0, {12: 0, 13: 0, 14: 0}, 0, Counter()
+        self.steps, self.refused, self.checksum, self.kinds = 0, {12: 0, 13: 0, 14: 0}, 0, Counter()
         self.start()
 
     def start(self):
@@ -73,17 +101,18 @@ class Run:
         played = play_block(*self.voice, forces, self.samples)
         self.turn, self.finger = played.turn, played.finger
         self.steps += played.count
+        for stepped in played.steps:
+            self.kinds.update(kinds_of(stepped))
         self.count(played.refusal)
         return played.refusal
 
     def singles(self, forces):
         """64 frames as single steps; one that is refused does not end them. Answers the last one's refusal."""
         for frame in range(64):
-            refusal, given = 0, forces[2 * frame : 2 * frame + 2]
-            before = state_of(self.first, self.second, self.contact, self.turn, self.finger)
+            refusal = 0
             try:
-                stepped = step(*self.voice, *given)
-                self.ties.update(ties_of(work_out(self.setup, self.heights, self.stiffness, before, *given)))
+                stepped = step(*self.voice, *forces[2 * frame : 2 * frame + 2])
+                self.kinds.update(kinds_of(stepped))
                 self.turn, self.finger = stepped.turn, stepped.finger
                 self.samples[2 * frame : 2 * frame + 2] = stepped.frame
                 self.steps += 1
@@ -116,7 +145,7 @@ class Run:
 
 
 def played(number):
-    """The lines of a run, and its ties. The segments of the runs go evenly from 2 to 128."""
+    """The lines of a run, and its kinds of ties and contacts. The segments of the runs go evenly from 2 to 128."""
     run = Run(number + 1, 2 + number * 126 // (RUNS - 1))
     lines = []
     for stretch in range(STRETCHES):
@@ -125,15 +154,15 @@ def played(number):
         for play in (run.block, run.singles, run.block, run.singles):
             run.part(play)
         lines.append(run.line(stretch))
-    return lines, run.ties
+    return lines, run.kinds
 
 
 def main(crates):
     with ProcessPoolExecutor() as pool:
         runs = list(pool.map(played, range(RUNS)))
-    ties = sum((of_run for _, of_run in runs), Counter())
-    for kind in KINDS:
-        assert ties[kind] >= ENOUGH, f"ties {kind}: {ties[kind]}, and not {ENOUGH}"
+    kinds = sum((of_run for _, of_run in runs), Counter())
+    for kind in [*TIES, *CLEARED, *DROPPED]:
+        assert kinds[kind] >= ENOUGH, f"{kind}: {kinds[kind]}, and not {ENOUGH}"
     lines = [line for of_run, _ in runs for line in of_run]
     (crates / "runs" / "stdout").write_text("\n".join(lines) + "\n")
 

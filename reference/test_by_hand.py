@@ -1,12 +1,14 @@
-"""Every line of 01's 'Checked by hand', starred and unstarred, on the reference, as 02's item 2 reads them."""
+"""Every line of 01's 'Checked by hand', starred and unstarred, on the reference, as 02's item 2 reads them; item 3 leaves them as they are."""
 
 import unittest
 from dataclasses import replace
 
 from string_voice.energy import rounding_work, stored, work
+from string_voice.moves import Finger, next_state
+from string_voice.pulling import workings
 from string_voice.ranges import Refused
 from string_voice.setup import Setup, check_setup
-from string_voice.step import Finger, fresh_start, next_state, state_of, step, work_out
+from string_voice.step import fresh_start, state_of, step
 
 BENCH = Setup(
     segments=2,
@@ -38,7 +40,7 @@ def displacements(plucks):
 
 def first_pluck(pluck):
     """The first step of the bench voice, worked out."""
-    return work_out(BENCH, *NO_NECK, state_of([0], [0], [0], 0, Finger(0, 0, 0)), pluck, 0)
+    return workings(BENCH, *NO_NECK, state_of([0], [0], [0], 0, Finger(0, 0, 0)), pluck, 0)[-1]
 
 
 def refusal(**changes):
@@ -66,18 +68,18 @@ class CheckedByHand(unittest.TestCase):
     def test_pressed_string(self):
         setup = replace(BENCH, tension=1)
         state = state_of([-16], [-16], [1000], 0, Finger(0, 0, 0))
-        worked = work_out(setup, [0], [64], state, 0, 0)
+        worked = workings(setup, [0], [64], state, 0, 0)[-1]
         after = next_state(worked)
-        self.assertEqual((worked.point_gradients[1], worked.moves[1], after.contact[1]), (8, 4, 968))
+        self.assertEqual((worked.gradients.points[1], worked.moves[1], after.contact[1]), (8, 4, 968))
         self.assertEqual((stored(setup, state), stored(setup, after)), (2_001_024, 2_005_888))
-        self.assertEqual(work_out(setup, [0], [63], state, 0, 0).point_gradients[1], 0)
+        self.assertEqual(workings(setup, [0], [63], state, 0, 0)[-1].gradients.points[1], 0)
 
     def test_pressing_finger(self):
         setup = replace(BENCH, tension=1, finger_stiffness=64)
         state = state_of([16], [16], [0], 0, Finger(newer=0, older=8, contact=0))
-        worked = work_out(setup, [0], [0], state, 0, 0)
+        worked = workings(setup, [0], [0], state, 0, 0)[-1]
         after = next_state(worked)
-        self.assertEqual((worked.finger_gradient, worked.moves[1], worked.finger_move), (8, 0, -16))
+        self.assertEqual((worked.gradients.finger, worked.moves[1], worked.finger_move), (8, 0, -16))
         self.assertEqual(after.finger.contact, 128)
         self.assertEqual((stored(setup, state), stored(setup, after)), (525_312, 558_080))
 

@@ -1,4 +1,4 @@
-"""Demand 3 on drawn runs of the reference: the energy after each step, and every residual and its limit."""
+"""Demand 3 on drawn runs of the reference, and that no contact pulls: the energy after each step, every residual and its limit, every contact."""
 
 import unittest
 
@@ -6,7 +6,7 @@ from drawn import Generator, drawn_forces, drawn_heights, drawn_neck, drawn_setu
 from string_voice.energy import loss, rounding_limit, rounding_work, stored, within_limits, work
 from string_voice.neck import lay_neck
 from string_voice.ranges import Refused
-from string_voice.step import fresh_start, state_of, step, work_out
+from string_voice.step import fresh_start, state_of, step
 
 
 class Energy(unittest.TestCase):
@@ -26,7 +26,6 @@ class Energy(unittest.TestCase):
         for _ in range(4):
             forces = drawn_forces(generator, setup)
             for pluck, finger_force in zip(forces[::2], forces[1::2]):
-                state = state_of(first, second, contact, turn, finger)
                 try:
                     stepped = step(setup, heights, stiffness, first, second, contact, turn, finger, pluck, finger_force)
                 except Refused as refused:
@@ -34,18 +33,21 @@ class Energy(unittest.TestCase):
                         turn, finger = fresh_start(setup, first, second, contact, *drawn_heights(generator))
                     continue
                 turn, finger = stepped.turn, stepped.finger
-                self.check(setup, work_out(setup, heights, stiffness, state, pluck, finger_force), state_of(first, second, contact, turn, finger))
+                self.check(setup, stepped.given, stepped.workings[-1], state_of(first, second, contact, turn, finger))
                 steps += 1
         return steps
 
-    def check(self, setup, worked, after):
-        """The energy balance of one step, exactly."""
-        energy = stored(setup, worked.state) + work(worked) - loss(worked) + rounding_work(worked)
+    def check(self, setup, before, worked, after):
+        """The energy balance of one step, exactly; no contact pulls."""
+        energy = stored(setup, before) + work(worked) - loss(before, worked) + rounding_work(worked)
         self.assertEqual(stored(setup, after), energy)
         self.assertGreaterEqual(energy, 0)
-        self.assertGreaterEqual(loss(worked), 0)
+        self.assertGreaterEqual(loss(before, worked), 0)
         self.assertTrue(within_limits(worked))
         self.assertLessEqual(abs(rounding_work(worked)), rounding_limit(worked))
+        old, gradients = worked.state, worked.gradients
+        contacts = [(gradients.finger, old.finger.contact, after.finger.contact), *zip(gradients.points, old.contact, after.contact)]
+        self.assertTrue(all(slope * (psi + new) >= 0 for slope, psi, new in contacts))
 
 
 if __name__ == "__main__":

@@ -1,4 +1,4 @@
-"""01, 'Energy': stored energy, and loss, work, residuals, limits and rounding work of a step."""
+"""01, 'Energy', with 02's item 3: stored energy, and loss, work, residuals, limits and rounding work of a step, by its last working."""
 
 from .differences import d1, difference, dot, e
 
@@ -11,9 +11,16 @@ def stored(setup, state):
     return string + 2 * dot(state.contact, state.contact) + hand
 
 
-def loss(worked):
+def let_go(given, worked):
+    """Of the state passed in, twice the square of each contact variable that was cleared before the step."""
+    psi, phi = difference(given.contact, worked.state.contact), given.finger.contact - worked.state.finger.contact
+    return 2 * dot(psi, psi) + 2 * phi**2
+
+
+def loss(given, worked):
+    """The loss of a step from the state passed in."""
     delta = worked.moves
-    return 2 * worked.setup.plain * dot(delta, delta) + worked.setup.viscous * e(delta, delta)
+    return 2 * worked.setup.plain * dot(delta, delta) + worked.setup.viscous * e(delta, delta) + let_go(given, worked)
 
 
 def work(worked):
@@ -22,7 +29,7 @@ def work(worked):
 
 def equations(worked):
     """For each point in turn, and then for the finger: residual, limit and move."""
-    p, m, g = worked.setup.finger_place, worked.setup.finger_mass, worked.finger_gradient
+    p, m, g = worked.setup.finger_place, worked.setup.finger_mass, worked.gradients.finger
     phi, delta_w = worked.state.finger.contact, worked.finger_move
     for place in worked.setup.places:
         A, c, delta = worked.factors[place], worked.right_sides[place], worked.moves[place]

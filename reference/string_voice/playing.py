@@ -15,6 +15,7 @@ class Played:
     refusal: int  # 0 if none stopped the block
     turn: int
     finger: object
+    steps: list  # those made
 
 
 def play_block(setup, heights, stiffness, first, second, contact, turn, finger, forces, samples):
@@ -27,18 +28,19 @@ def play_block(setup, heights, stiffness, first, second, contact, turn, finger, 
         check_heights(heights)
         check_state(first, second, contact, finger)
     except Refused as refused:
-        return Played(0, refused.number, turn, finger)
-    count = 0
+        return Played(0, refused.number, turn, finger, [])
+    count, steps = 0, []
     while 2 * count < len(forces):
         pluck, finger_force = forces[2 * count : 2 * count + 2]
         try:
             stepped = step_made(setup, heights, stiffness, first, second, contact, turn, finger, pluck, finger_force)
         except Refused as refused:
-            return Played(count, refused.number, turn, finger)
+            return Played(count, refused.number, turn, finger, steps)
         turn, finger = stepped.turn, stepped.finger
         samples[2 * count : 2 * count + 2] = stepped.frame
+        steps.append(stepped)
         count += 1
-    return Played(count, 0, turn, finger)
+    return Played(count, 0, turn, finger, steps)
 
 
 def newest(first, second, turn):

@@ -1,5 +1,6 @@
-// 01, 'Contact gradient': how hard a contact pushes. `roots` is the root table, `gradient` the gradient for a stiffness and a depth, `gradients` those of a
-// step: of each point over the neck and of the finger.
+// 01, 'Contact gradient', and 02, item 3: the contacts of a step before its moves. `clearing` is what is kept of a contact variable, `roots` the root
+// table, `gradient` the gradient for a stiffness and a depth, `contacts` both of each point over the neck and of the finger.
+pub mod clearing;
+pub mod contacts;
 pub mod gradient;
-pub mod gradients;
 pub mod roots;

@@ -15,7 +15,7 @@ use Rattle.model.specs.Refusal.{Rule, firstOf, Answer, accepted, refused}
 use Rattle.model.specs.Setup.{N, L, M, S, Z, m, p, e, points, placeOk, lengthOk, coefficientWrong, ownPlaces, setupRules, setup}
 use Rattle.model.specs.Differences.{at}
 use Rattle.model.specs.State.{State, Lent, byTurn, newest, stateOf, put, Neck, Forces}
-use Rattle.model.specs.Step.{workedStep, nextState, buffersRule, callRules, resultRules, stepRules, frame, StepResult, step}
+use Rattle.model.specs.Step.{clear, workedStep, nextState, buffersRule, callRules, resultRules, stepRules, frame, StepResult, step}
 use Rattle.model.specs.Neck.{Plan, fretAt, neckRules, NeckResult, laid, lay}
 use Rattle.model.specs.Start.{startRules, StartResult, startedResult, start, fresh}
 use Rattle.model.specs.declared.Setup.{Setup}
@@ -173,7 +173,7 @@ module _ (s : Setup) (neck : Neck) (v : Lent) (F : Forces) where
   step-accepted = accepted-by (λ r. r .answer) (stepRules s neck (stateOf v) F) tt resultMade _ (λ n. refl)
 
   pub accepted-step : (f : Frame) → step s neck v F .answer ≡ accepted f → StepFacts s neck (stateOf v) F (stateOf (step s neck v F .lent))
-  unfolding stepRules callRules setupRules nextState workedStep
+  unfolding stepRules callRules setupRules nextState workedStep clear
   accepted-step f e =
       let (h, r) = step-accepted f e in
       record { passed = h; examined = examined s neck (stateOf v) (drop 6 (stepRules s neck (stateOf v) F)) h; result = ap (λ q. stateOf (q .lent)) r ∙ state-put v stateMade refl }

@@ -1,5 +1,5 @@
 -- The energy balance of one step, whatever its state, gradients, forces and moves, where the lists have the setup's length:
--- stored energy after = before + work − loss + rounding work.
+-- stored energy after = before + released + work − loss + rounding work, where what is released before the step is a part of its loss.
 use mathlib.Core.Path.{_≡_, refl, sym, _∙_, ap, ap₂}
 use mathlib.Core.Bool.{Bool, true, false, cond}
 use mathlib.Core.List.{List, [], _∷_}
@@ -14,12 +14,14 @@ use Rattle.model.specs.Setup.{L, M, S, Z, m, p, e, points}
 use Rattle.model.specs.Differences.{at, plus, minus, times, D1, D2, dot, E}
 use Rattle.model.specs.System.{residual₁}
 use Rattle.model.specs.State.{State, Neck, Forces, PointsAndFinger}
-use Rattle.model.specs.Gradient.{gradient}
-use Rattle.model.specs.Step.{gradients, A, c, system, moves, WorkedStep, workedStep, nextState}
-use Rattle.model.specs.Energy.{storedEnergy, work, loss, dotAll, residuals, roundingWork}
+use Rattle.model.specs.Step.{A, c, system, WorkedStep, clear, workedStep, nextState}
+use Rattle.model.specs.Energy.{storedEnergy, work, released, loss, dotAll, residuals, roundingWork}
 use Rattle.model.specs.declared.Setup.{Setup}
 use Rattle.laws.specs.Accepted.{Examined}
-use Rattle.laws.specs.Strings.{_spans_, length-zip, spans-plus, spans-minus, spans-times, at-plus, at-minus, at-times, form, form-comm, form-plus, square-minus, own, rise, own-linear, rise-linear, bend-linear, _·_, dot-form, E-form, D1-form, parts, parts₂, dot-only}
+use Rattle.laws.specs.Clearing.{examined-clear}
+use Rattle.laws.specs.Moves.{spans-moves}
+use Rattle.laws.specs.Pulling.{spans-last}
+use Rattle.laws.specs.Strings.{_spans_, spans-plus, spans-minus, spans-times, at-plus, at-minus, at-times, form, form-comm, form-plus, square-minus, own, rise, own-linear, rise-linear, bend-linear, _·_, dot-form, E-form, D1-form, parts, parts₂, dot-only}
 
 -- ---- what a move d does to each sum of the energy: the new string is v + d, the new contact variables ψ − γ·d
 
@@ -141,7 +143,7 @@ module _ (t : WorkedStep) (fit : Fit t) where
       (pos (Z s)) (pos (L s)) (pos (M s)) (pos (S s)) (F .pluck) pull (at d (e s)) (at d (p s))
       (form own n (at d) (at d)) (form own n (at γd) (at γd)) (form own n (at d) (at a)) (form own n (at d) (at (D1 u))) (form own n (at d) (at (D2 u))) (form own n (at d) (at (D1 a))) (form own n (at (x .contact)) (at γd))))
 
-  pub balance : storedEnergy s (nextState t) ≡ storedEnergy s x +ℤ work t -ℤ loss t +ℤ roundingWork t
+  pub balance : storedEnergy s (nextState t) ≡ storedEnergy s x +ℤ released t +ℤ work t -ℤ loss t +ℤ roundingWork t
   unfolding storedEnergy nextState work loss roundingWork dotAll residuals system pull
   balance =
       let hu = fit .newer in
@@ -152,24 +154,18 @@ module _ (t : WorkedStep) (fit : Fit t) where
       let a = minus u (x .older) in
       let γd = times (G .points) d in
       rw (kinetic hu hv hd, tension hu hv hd, bending hu hv hd, viscous hu hv hd, contact (fit .contact) (fit .gradients) hd, residuals-sum)
-      (solve 27 (λ L M S Z m g φ w w' y F f de dp dd da aa uv dDu DuDv dDDu Edd dDa Eaa ψψ ψt tt.
+      (solve 28 (λ L M S Z m g φ w w' y F f de dp dd da aa uv dDu DuDv dDDu Edd dDa Eaa ψψ ψt tt r.
       # 8192 ⊗ (dd ⊖ # 2 ⊗ da ⊕ aa) ⊕ # 2 ⊗ L ⊗ (uv ⊖ dDu) ⊕ # 2 ⊗ M ⊗ (DuDv ⊕ dDDu) ⊖ S ⊗ (Edd ⊕ # 2 ⊗ dDa ⊕ Eaa) ⊕ # 2 ⊗ (ψψ ⊖ # 2 ⊗ ψt ⊕ tt)
       ⊕ # 2 ⊗ m ⊗ ((w' ⊕ y ⊖ w) ⊗ (w' ⊕ y ⊖ w)) ⊕ # 2 ⊗ ((φ ⊕ g ⊗ (dp ⊖ y)) ⊗ (φ ⊕ g ⊗ (dp ⊖ y)))
       ≐ (# 8192 ⊗ aa ⊕ # 2 ⊗ L ⊗ uv ⊕ # 2 ⊗ M ⊗ DuDv ⊖ S ⊗ Eaa ⊕ # 2 ⊗ ψψ ⊕ # 2 ⊗ m ⊗ ((w ⊖ w') ⊗ (w ⊖ w')) ⊕ # 2 ⊗ (φ ⊗ φ))
-      ⊕ (# 2 ⊗ F ⊗ de ⊕ # 2 ⊗ f ⊗ y) ⊖ (# 2 ⊗ Z ⊗ dd ⊕ S ⊗ Edd)
+      ⊕ r ⊕ (# 2 ⊗ F ⊗ de ⊕ # 2 ⊗ f ⊗ y) ⊖ (# 2 ⊗ Z ⊗ dd ⊕ S ⊗ Edd ⊕ r)
       ⊕ # 2 ⊗ ((# 4096 ⊕ Z) ⊗ dd ⊕ tt ⊖ # 8192 ⊗ da ⊖ L ⊗ dDu ⊕ M ⊗ dDDu ⊖ S ⊗ dDa ⊖ # 2 ⊗ ψt ⊖ F ⊗ de ⊕ (g ⊗ g ⊗ (dp ⊖ y) ⊕ # 2 ⊗ g ⊗ φ) ⊗ dp
       ⊕ (⊝ (g ⊗ g) ⊗ dp ⊕ (m ⊕ g ⊗ g) ⊗ y ⊖ (# 2 ⊗ m ⊗ (w ⊖ w') ⊕ f ⊕ # 2 ⊗ g ⊗ φ)) ⊗ y)) tt
       (pos (L s)) (pos (M s)) (pos (S s)) (pos (Z s)) (pos (m s)) (G .finger) (x .finger .contact) (x .finger .newer) (x .finger .older) (δ .finger) (F .pluck) (F .finger) (at d (e s)) (at d (p s))
-      (dot d d) (dot d a) (dot a a) (E u (x .older)) (dot d (D1 u)) (dot (D1 u) (D1 (x .older))) (dot d (D2 u)) (E d d) (dot d (D1 a)) (E a a) (dot (x .contact) (x .contact)) (dot (x .contact) γd) (dot γd γd))
+      (dot d d) (dot d a) (dot a a) (E u (x .older)) (dot d (D1 u)) (dot (D1 u) (D1 (x .older))) (dot d (D2 u)) (E d d) (dot d (D1 a)) (E a a) (dot (x .contact) (x .contact)) (dot (x .contact) γd) (dot γd γd) (released t))
 
 -- ---- the lists fit where rules 1 to 6 are passed
 
 pub fit : {s : Setup} {neck : Neck} {x : State} (F : Forces) → Examined s neck x → Fit (workedStep s neck x F)
-unfolding workedStep gradients moves
-fit {s} {neck} {x} F h = record {
-  newer = h .newer;
-  older = h .older;
-  contact = h .contact;
-  gradients = record { long = length-zip gradient (neck .stiffness) (minus (neck .heights) (x .newer)) (h .stiffness ∙ sym (spans-minus (h .heights) (h .newer) .long)) ∙ h .stiffness };
-  moves = record { long = length-tabulate (points s) _ };
-}
+unfolding workedStep clear
+fit {s} {neck} {x} F h = record { newer = h .newer; older = h .older; contact = examined-clear h .contact; gradients = spans-last h F; moves = spans-moves s (clear s neck x) _ F }

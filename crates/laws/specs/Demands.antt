@@ -12,12 +12,13 @@ use Rattle.model.specs.Block.{blockRules}
 use Rattle.model.specs.Reading.{readingRules}
 use Rattle.model.specs.declared.Setup.{Setup}
 use Rattle.promises.specs.Promises as promise
-use Rattle.promises.specs.Promises.{Demand1, Accepts, Demand2, Runs, Demand3, Blocks, LongerSamples, Frames, Readings, Rounding, Refuses, Leaves}
+use Rattle.promises.specs.Promises.{Demand1, Accepts, Demand2, NoContactPulls, OnlyAbove, Runs, Demand3, Blocks, LongerSamples, Frames, Readings, Rounding, Refuses, Leaves}
 use Rattle.laws.specs.Refusals.{first-unique, by-table}
 use Rattle.laws.specs.Nearest.{nearest-is, unique}
 use Rattle.laws.specs.Accepted as Accepted
 use Rattle.laws.specs.Accepted.{sound, start-accepted}
 use Rattle.laws.specs.Solved as Solved
+use Rattle.laws.specs.OnlyAbove as Above
 use Rattle.laws.specs.Run.{run}
 use Rattle.promises.specs.Symmetry.{Symmetry}
 use Rattle.laws.specs.Symmetry as Symmetric
@@ -47,6 +48,14 @@ accepts = Accepted.accepts
 -- an accepted step solves the equations
 pub demand2 : Demand2
 demand2 = Solved.step-solves
+
+-- and no contact pulls in it
+pub no-contact-pulls : NoContactPulls
+no-contact-pulls = Solved.no-contact-pulls
+
+-- so that 14 is given only above its range
+pub only-above : OnlyAbove
+only-above = Above.only-above
 
 -- the energy of every list of steps
 pub runs : Runs

@@ -1,4 +1,4 @@
--- The contact gradient is 01's, and at most 255: its root is the greatest whole number whose square is at most 64·q, and the only one.
+-- The contact gradient is 01's, from 0 to 255: its root is the greatest whole number whose square is at most 64·q, and the only one.
 use mathlib.Core.Path.{_≡_, refl, sym, subst}
 use mathlib.Core.Bool.{Bool, true, false, not, cond}
 use mathlib.Core.Logic.{⊎-elim}
@@ -8,7 +8,8 @@ use native.Mathlib.Omega.{arith}
 use lib.Dec.{T, leb}
 use mir.Facts.{leb-yes, leb-no, yes-leb, clash}
 use lib.IntN.{ℤ, pos, natAbs}
-use lib.Signed.{_<ℤ_, leZ, leZ-yes, clashℤ}
+use lib.Signed.{_≤ℤ_, _<ℤ_, leZ, leZ-yes, clashℤ}
+use Rattle.integers.specs.Order.{≤-refl, nonneg}
 use Rattle.integers.specs.Tests.{is-true, is-false}
 use Rattle.integers.specs.Size.{_within_, natural}
 use Rattle.model.specs.Gradient.{greatest, root, gradient}
@@ -44,13 +45,21 @@ module _ (f : ℕ → Bool) where
       go true h = le-refl (suc n)
       go false h = le-step h
 
-pub gradient-size : (k : ℕ) (d : ℤ) → gradient k d within 255
-unfolding gradient root
-gradient-size k d = go (leZ d (pos 0))
+-- what holds of 0 and of every root holds of a gradient
+by-root : (P : ℤ → Type 0) → P (pos 0) → ((q : ℕ) → P (pos (root q))) → (k : ℕ) (d : ℤ) → P (gradient k d)
+unfolding gradient
+by-root P z h k d = go (leZ d (pos 0))
   where
-    go : (b : Bool) → cond b (pos 0) (pos (root (min 1023 (k * natAbs d / 1024)))) within 255
-    go true = natural zero-le
-    go false = natural (greatest-≤ _ 255)
+    go : (b : Bool) → P (cond b (pos 0) (pos (root (min 1023 (k * natAbs d / 1024)))))
+    go true = z
+    go false = h _
+
+pub gradient-size : (k : ℕ) (d : ℤ) → gradient k d within 255
+unfolding root
+gradient-size = by-root (λ g. g within 255) (natural zero-le) (λ q. natural (greatest-≤ _ 255))
+
+pub gradient-nonneg : (k : ℕ) (d : ℤ) → pos 0 ≤ℤ gradient k d
+gradient-nonneg = by-root (λ g. pos 0 ≤ℤ g) ≤-refl (λ q. nonneg (root q))
 
 pub root-is : (q : ℕ) → q ≤ 1023 → IsRoot q (root q)
 unfolding root

@@ -1,70 +1,53 @@
--- A step with no gradient above zero: each point's move is c / (4096 + Z), rounded, at p too; the finger's is its own; and the contact variables stay.
+-- A step whose last moves have no gradient above zero: each point's move is c / (4096 + Z), rounded, at p too; the finger's is its own; and the contact
+-- variables stay as clearing left them.
 use mathlib.Core.Path.{_≡_, refl, sym, _∙_, ap, ap₂, subst}
 use mathlib.Core.Bool.{Bool, true, false, cond}
 use mathlib.Core.List.{List, [], _∷_, zipWith}
-use Prim.Native.Nat.{ℕ, zero, suc, _*_, _/_, min, _≤_}
+use Prim.Native.Nat.{ℕ, suc, _≤_}
 use lib.Dec.{T, eqb}
-use lib.IntN.{ℤ, pos, natAbs, _+ℤ_, _-ℤ_, _*ℤ_}
-use lib.Signed.{_≤ℤ_, _<ℤ_, leZ}
+use lib.IntN.{ℤ, pos, _+ℤ_, _-ℤ_, _*ℤ_}
+use lib.Signed.{_≤ℤ_, _<ℤ_}
 use lib.ListN.{length}
 use mir.Facts.{and-yes, yes-and, eqb-yes}
 use Rattle.integers.specs.Solve.{_⊕_, _⊖_, _⊗_, ⊝_, #_, _≐_, solve}
-use Rattle.integers.specs.Order.{≤-antisym, nonneg, pos-≤, suc-<}
+use Rattle.integers.specs.Order.{≤-refl, ≤-antisym, pos-≤, suc-<}
 use Rattle.model.specs.Ranges.{all, contactOk}
-use Rattle.model.specs.Gradient.{gradient, root}
-use Rattle.model.specs.Setup.{L, M, S, m, p, e, points}
-use Rattle.model.specs.Differences.{at, places, minus, times, D1, D2}
+use Rattle.model.specs.Setup.{m, p, e, points}
+use Rattle.model.specs.Differences.{at, places, minus, times}
 use Rattle.model.specs.Rounding.{nearest}
 use Rattle.model.specs.System.{rounded₁, rounded₂}
 use Rattle.model.specs.State.{State, Lent, Neck, Forces, PointsAndFinger}
-use Rattle.model.specs.Step.{factor, rightSide, fingerSystem, gradients, A, c, system, moves, workedStep, nextState, step}
+use Rattle.model.specs.Step.{factor, rightSide, fingerSystem, clear, A, c, system, moves, workedStep, nextState, step}
 use Rattle.model.specs.Run.{voice, Call, call, history}
 use Rattle.model.specs.declared.Setup.{Setup}
 use Rattle.promises.specs.Promises.{Every}
 use Rattle.laws.specs.Nearest.{nearest-scaled}
 use Rattle.laws.specs.Strings.{spans-minus, spans-times}
 use Rattle.laws.specs.Moves.{factor-positive}
-use Rattle.laws.specs.Balance.{fit}
+use Rattle.laws.specs.Refusals.{at-every}
+use Rattle.laws.specs.LastMoves.{withContact, side-parts}
 use Rattle.laws.specs.Accepted.{Examined}
+use Rattle.laws.specs.Clearing.{contacts-clear}
+use Rattle.laws.specs.Pulling.{Each, worked-nonneg}
+use Rattle.laws.specs.Balance.{fit}
 
 -- ---- the gradients
 
 -- all are 0
-pub record Zero (G : PointsAndFinger) : Type 0 where
-  pub each : Every (λ g. g ≡ pos 0) (G .points)
-  pub finger : G .finger ≡ pos 0
+abbrev pub Zero : PointsAndFinger → Type 0
+Zero G = Each (λ g. g ≡ pos 0) G
 
-at-zero : (l : List ℤ) → Every (λ g. g ≡ pos 0) l → (i : ℕ) → at l i ≡ pos 0
-at-zero l h zero = refl
-at-zero [] h (suc k) = refl
-at-zero (x ∷ l) h (suc zero) = h .0
-at-zero (x ∷ l) h (suc (suc k)) = at-zero l (h .1) (suc k)
-
-gradient-nonneg : (k : ℕ) (d : ℤ) → pos 0 ≤ℤ gradient k d
-unfolding gradient
-gradient-nonneg k d = go (leZ d (pos 0))
-  where
-    go : (b : Bool) → pos 0 ≤ℤ cond b (pos 0) (pos (root (min 1023 (k * natAbs d / 1024))))
-    go true = nonneg 0
-    go false = nonneg (root (min 1023 (k * natAbs d / 1024)))
-
-zeros : (ks : List ℕ) (ds : List ℤ) → Every (λ g. g ≤ℤ pos 0) (zipWith gradient ks ds) → Every (λ g. g ≡ pos 0) (zipWith gradient ks ds)
-unfolding zipWith
-zeros [] ds h = tt
-zeros (k ∷ ks) [] h = tt
-zeros (k ∷ ks) (d ∷ ds) h = (≤-antisym (h .0) (gradient-nonneg k d), zeros ks ds (h .1))
-
-pub zero-gradients : (s : Setup) (neck : Neck) (x : State) → Every (λ g. g ≤ℤ pos 0) (gradients s neck x .points) → gradients s neck x .finger ≤ℤ pos 0 → Zero (gradients s neck x)
-unfolding gradients
-zero-gradients s neck x h k = record { each = zeros (neck .stiffness) (minus (neck .heights) (x .newer)) h; finger = ≤-antisym k (gradient-nonneg _ _) }
+-- those of the last moves are, where none is above zero
+pub zero-gradients : (s : Setup) (neck : Neck) (x : State) (F : Forces) → let G = workedStep s neck x F .gradients in Every (λ g. g ≤ℤ pos 0) (G .points) → G .finger ≤ℤ pos 0 → Zero G
+zero-gradients s neck x F h k =
+    let up = worked-nonneg s neck x F in
+    record { point = λ i. ≤-antisym (at-every (λ g. g ≤ℤ pos 0) (workedStep s neck x F .gradients .points) ≤-refl h i) (up .point i); finger = ≤-antisym k (up .finger) }
 
 -- ---- the moves
 
 -- c where there is no gradient, by newer and older string and the point's pluck force
 unfoldable pub side : Setup → List ℤ → List ℤ → ℤ → ℕ → ℤ
-side s u v f i =
-    let a = minus u v in
-    pos 8192 *ℤ at a i +ℤ pos (L s) *ℤ at (D1 u) i -ℤ pos (M s) *ℤ at (D2 u) i +ℤ pos (S s) *ℤ at (D1 a) i +ℤ f
+side s u v f i = rightSide s u v (pos 0) (pos 0) f i
 
 -- the right side of the finger's own equation
 unfoldable pub push : Setup → (w w' f : ℤ) → ℤ
@@ -85,14 +68,13 @@ module _ (s : Setup) (x : State) (G : PointsAndFinger) (F : Forces) (z : Zero G)
 
   c-loose : (i : ℕ) → c s x G F i ≡ own i
   unfolding c own side
-  c-loose i = ap (λ g. rightSide s (x .newer) (x .older) g (at (x .contact) i) (pluckAt s F i) i) (at-zero (G .points) (z .each) i)
-      ∙ solve 3 (λ a ψ f. a ⊕ # 2 ⊗ # 0 ⊗ ψ ⊕ f ≐ a ⊕ f) tt
-      (pos 8192 *ℤ at (minus (x .newer) (x .older)) i +ℤ pos (L s) *ℤ at (D1 (x .newer)) i -ℤ pos (M s) *ℤ at (D2 (x .newer)) i +ℤ pos (S s) *ℤ at (D1 (minus (x .newer) (x .older))) i)
-      (at (x .contact) i) (pluckAt s F i)
+  c-loose i = side-parts s (x .newer) (x .older) (at (G .points) i) (at (x .contact) i) (pluckAt s F i) i
+      ∙ ap (withContact (own i) (at (x .contact) i)) (z .point i)
+      ∙ solve 2 (λ b ψ. b ⊕ # 2 ⊗ # 0 ⊗ ψ ≐ b) tt (own i) (at (x .contact) i)
 
   A-loose : (i : ℕ) → A s G i ≡ factor s (pos 0)
   unfolding A
-  A-loose i = ap (factor s) (at-zero (G .points) (z .each) i)
+  A-loose i = ap (factor s) (z .point i)
 
   positive-mass : pos 0 <ℤ pos (m s)
   positive-mass = suc-< (pos-≤ mass)
@@ -128,7 +110,7 @@ module _ (s : Setup) (x : State) (G : PointsAndFinger) (F : Forces) (z : Zero G)
       (solve 2 (λ a m. (a ⊕ # 0 ⊗ # 0) ⊗ (m ⊕ # 0 ⊗ # 0) ⊖ ⊝ (# 0 ⊗ # 0) ⊗ ⊝ (# 0 ⊗ # 0) ≐ a ⊗ m) tt A₀ (pos (m s)))
       ∙ nearest-scaled A₀ push₀ (factor-positive s (pos 0)) positive-mass
 
-  pub moves-loose : moves s x G F ≡ looseMoves s x F
+  moves-loose : moves s x G F ≡ looseMoves s x F
   unfolding moves push₀ own
   moves-loose = ap₂ (λ a b. record { points = a; finger = b }) (λ j. places (points s) (λ i. each (eqb i (p s)) i refl j)) finger-loose
     where
@@ -136,32 +118,40 @@ module _ (s : Setup) (x : State) (G : PointsAndFinger) (F : Forces) (z : Zero G)
       each true i q = point-loose ∙ ap (λ (i : ℕ). nearest (own i) A₀) (sym (eqb-yes {a = i} {b = p s} (rw q tt)))
       each false i q = ap₂ nearest (c-loose i) (A-loose i)
 
+pub worked-loose : (s : Setup) (neck : Neck) (x : State) (F : Forces) → Zero (workedStep s neck x F .gradients) → 1 ≤ m s → workedStep s neck x F .moves ≡ looseMoves s x F
+unfolding workedStep clear
+worked-loose s neck x F = moves-loose s (clear s neck x) (workedStep s neck x F .gradients) F
+
 -- ---- the contact variables
 
 minus-none : (ψ : ℤ) {g : ℤ} (d : ℤ) → g ≡ pos 0 → ψ -ℤ g *ℤ d ≡ ψ
 minus-none ψ d q = ap (λ g. ψ -ℤ g *ℤ d) q ∙ solve 2 (λ ψ d. ψ ⊖ # 0 ⊗ d ≐ ψ) tt ψ d
 
-points-kept : (ψ G δ : List ℤ) → Every (λ g. g ≡ pos 0) G → T (all contactOk ψ) → T (all contactOk (minus ψ (times G δ)))
+pub plus-none : (φ : ℤ) {g : ℤ} (d : ℤ) → g ≡ pos 0 → φ +ℤ g *ℤ d ≡ φ
+plus-none φ d q = ap (λ g. φ +ℤ g *ℤ d) q ∙ solve 2 (λ φ d. φ ⊕ # 0 ⊗ d ≐ φ) tt φ d
+
+points-kept : (ψ G δ : List ℤ) → ((k : ℕ) → at G (suc k) ≡ pos 0) → T (all contactOk ψ) → T (all contactOk (minus ψ (times G δ)))
 unfolding minus times zipWith
 points-kept [] G δ h t = tt
 points-kept (a ∷ ψ) [] δ h t = tt
 points-kept (a ∷ ψ) (g ∷ G) [] h t = tt
 points-kept (a ∷ ψ) (g ∷ G) (d ∷ δ) h t =
     let k = and-yes (contactOk a) (all contactOk ψ) t in
-    yes-and (contactOk (a -ℤ g *ℤ d)) (all contactOk (minus ψ (times G δ))) (rw (minus-none a d (h .0)) (k .0)) (points-kept ψ G δ (h .1) (k .1))
+    yes-and (contactOk (a -ℤ g *ℤ d)) (all contactOk (minus ψ (times G δ))) (rw (minus-none a d (h 0)) (k .0)) (points-kept ψ G δ (λ k. h (suc k)) (k .1))
 
 -- in range before, in range after
-pub contacts-kept : (s : Setup) (neck : Neck) (x : State) (F : Forces) → Zero (gradients s neck x) → T (all contactOk (x .finger .contact ∷ x .contact))
+pub contacts-kept : (s : Setup) (neck : Neck) (x : State) (F : Forces) → Zero (workedStep s neck x F .gradients) → T (all contactOk (x .finger .contact ∷ x .contact))
     → let y = nextState (workedStep s neck x F) in T (all contactOk (y .finger .contact ∷ y .contact))
 unfolding nextState workedStep
 contacts-kept s neck x F z t =
-    let k = and-yes (contactOk (x .finger .contact)) (all contactOk (x .contact)) t in
-    let G = gradients s neck x in
-    let δ = moves s x G F in
-    let φ = x .finger .contact in
-    yes-and (contactOk (φ +ℤ G .finger *ℤ (at (δ .points) (p s) -ℤ δ .finger))) (all contactOk (minus (x .contact) (times (G .points) (δ .points))))
-    (subst (λ b. T (contactOk b)) (sym (ap (λ g. φ +ℤ g *ℤ (at (δ .points) (p s) -ℤ δ .finger)) (z .finger) ∙ solve 2 (λ φ d. φ ⊕ # 0 ⊗ d ≐ φ) tt φ (at (δ .points) (p s) -ℤ δ .finger))) (k .0))
-    (points-kept (x .contact) (G .points) (δ .points) (z .each) (k .1))
+    let y = clear s neck x in
+    let G = workedStep s neck x F .gradients in
+    let δ = workedStep s neck x F .moves in
+    let φ = y .finger .contact in
+    let k = and-yes (contactOk φ) (all contactOk (y .contact)) (contacts-clear s neck x t) in
+    yes-and (contactOk (φ +ℤ G .finger *ℤ (at (δ .points) (p s) -ℤ δ .finger))) (all contactOk (minus (y .contact) (times (G .points) (δ .points))))
+    (rw (plus-none φ (at (δ .points) (p s) -ℤ δ .finger) (z .finger)) (k .0))
+    (points-kept (y .contact) (G .points) (δ .points) (λ k. z .point (suc k)) (k .1))
 
 -- the contact variables stay as many
 pub contact-length : (s : Setup) (neck : Neck) (x : State) (F : Forces) → Examined s neck x → length (nextState (workedStep s neck x F) .contact) ≡ points s

@@ -56,6 +56,10 @@ pub det-positive : (s : Setup) (x : State) (G : PointsAndFinger) (F : Forces) �
 unfolding system
 det-positive s x G F h = regular-system s (x .finger) (c s x G F (p s)) (G .finger) (F .finger) (A-positive s G (p s)) h
 
+pub spans-moves : (s : Setup) (x : State) (G : PointsAndFinger) (F : Forces) → moves s x G F .points spans points s
+unfolding moves
+spans-moves s x G F = record { long = length-tabulate (points s) _ }
+
 module _ (s : Setup) (x : State) (G : PointsAndFinger) (F : Forces) (ok : SetupFacts s) where
   regular : pos 0 <ℤ det (system s x G F)
   regular = det-positive s x G F (ok .mass-low)
@@ -67,11 +71,19 @@ module _ (s : Setup) (x : State) (G : PointsAndFinger) (F : Forces) (ok : SetupF
   unfolding moves move
   at-moves i h l = at-places (points s) (λ i. move (eqb i (p s)) i) i h l
 
+  pub move-away : (i : ℕ) → 1 ≤ i → i ≤ points s → i ≢ p s → at (moves s x G F .points) i ≡ nearest (c s x G F i) (A s G i)
+  unfolding move
+  move-away i h l d = at-moves i h l ∙ ap (λ b. move b i) (is-false (eqb i (p s)) (no-eqb d))
+
+  pub move-finger : at (moves s x G F .points) (p s) ≡ rounded₁ (system s x G F)
+  unfolding move
+  move-finger = at-moves (p s) (ok .first) (ok .last) ∙ ap (λ b. move b (p s)) (is-true (eqb (p s) (p s)) (eqb-refl (p s)))
+
   pub moves-nearest : NearestMoves s x G F (moves s x G F)
-  unfolding move moves
+  unfolding moves
   moves-nearest = record {
-    away = λ i h l d. rw (at-moves i h l, is-false (eqb i (p s)) (no-eqb d)) (nearest-is (c s x G F i) (A-positive s G i));
-    finger = rw (at-moves (p s) (ok .first) (ok .last), is-true (eqb (p s) (p s)) (eqb-refl (p s))) (rounded-is (system s x G F) regular);
+    away = λ i h l d. rw (move-away i h l d) (nearest-is (c s x G F i) (A-positive s G i));
+    finger = rw move-finger (rounded-is (system s x G F) regular);
   }
 
   pub moves-unique : (δ : PointsAndFinger) → δ .points spans points s → NearestMoves s x G F δ → δ ≡ moves s x G F

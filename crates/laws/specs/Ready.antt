@@ -13,7 +13,7 @@ use Rattle.model.specs.Refusal.{Rule, _when_, firstOf, refused, unless}
 use Rattle.model.specs.Setup.{points, lengthOk, setupRules}
 use Rattle.model.specs.State.{State, Lent, stateOf, Neck, Forces}
 use Rattle.model.specs.Neck.{heightsRule}
-use Rattle.model.specs.Step.{workedStep, nextState, buffersRule, stateRule, callRules, resultRules, stepRules, step}
+use Rattle.model.specs.Step.{clear, workedStep, nextState, buffersRule, stateRule, callRules, resultRules, stepRules, step}
 use Rattle.model.specs.declared.Setup.{Setup}
 use Rattle.promises.specs.Promises.{Passed}
 use Rattle.laws.specs.Refusals.{fails, first-append, append-passed, not-not, yes-all, never-both}
@@ -38,7 +38,7 @@ module _ {s : Setup} {neck : Neck} {x : State} {F : Forces} {y : State} (h : Ste
   z = nextState (workedStep s neck x F)
 
   lengths : Passed (buffersRule s neck z ∷ [])
-  unfolding z nextState workedStep
+  unfolding z nextState workedStep clear
   lengths =
       let f = fit F (h .examined) in
       let x = h .examined in
@@ -57,7 +57,7 @@ module _ {s : Setup} {neck : Neck} {x : State} {F : Forces} {y : State} (h : Ste
       )
 
   range : InRange z
-  unfolding z nextState workedStep stepRules callRules resultRules setupRules
+  unfolding z nextState workedStep clear stepRules callRules resultRules setupRules
   range =
       let rules = stepRules s neck x F in
       let u = and-yes (displacementOk (z .finger .newer)) (all displacementOk (z .newer)) (T-not-not (all displacementOk (z .finger .newer ∷ z .newer)) (fails 13 rules (h .passed))) in

@@ -112,12 +112,15 @@ all-entry f [] d t i l = absurd (not-suc-le-zero l)
 all-entry f (x ∷ xs) d t zero l = and-yes (f x) (all f xs) t .0
 all-entry f (x ∷ xs) d t (suc i) l = all-entry f xs d (and-yes (f x) (all f xs) t .1) i (le-of-suc-le-suc l)
 
--- what every entry passes, and 0, every place does
+-- what holds of every entry, and of 0, holds at every place
+pub at-every : (P : ℤ → Type 0) (u : List ℤ) → P (pos 0) → Every P u → (i : ℕ) → P (at u i)
+at-every P u z h zero = z
+at-every P [] z h (suc k) = z
+at-every P (x ∷ u) z h (suc zero) = h .0
+at-every P (x ∷ u) z h (suc (suc k)) = at-every P u z (h .1) (suc k)
+
 pub at-all : (f : ℤ → Bool) (u : List ℤ) → T (f (pos 0)) → T (all f u) → (i : ℕ) → T (f (at u i))
-at-all f u z t zero = z
-at-all f [] z t (suc k) = z
-at-all f (x ∷ u) z t (suc zero) = and-yes (f x) (all f u) t .0
-at-all f (x ∷ u) z t (suc (suc k)) = at-all f u z (and-yes (f x) (all f u) t .1) (suc k)
+at-all f u z t = at-every (λ x. T (f x)) u z (every f u t)
 
 -- ---- an operation by its table
 

@@ -1,5 +1,5 @@
 -- Demand 3: the claims on the energy hold for every list of steps, from any strings of the setup's length, on any neck.
-use mathlib.Core.Path.{_≡_, refl, _∙_, ap, ap₂, subst}
+use mathlib.Core.Path.{_≡_, refl, sym, _∙_, ap, ap₂, subst}
 use mathlib.Core.List.{List, [], _∷_}
 use Prim.Native.Nat.{ℕ, zero, suc}
 use lib.IntN.{ℤ, pos, natAbs, _+ℤ_, _-ℤ_, _*ℤ_}
@@ -12,13 +12,15 @@ use Rattle.model.specs.Refusal.{Answer, accepted, refused}
 use Rattle.model.specs.Setup.{e, points}
 use Rattle.model.specs.Differences.{at, dot}
 use Rattle.model.specs.State.{State, Lent, byTurn, stateOf, put, Neck, Forces}
-use Rattle.model.specs.Step.{gradients, moves, WorkedStep, workedStep, nextState, step}
-use Rattle.model.specs.Energy.{storedEnergy, work, loss, dotAll, residuals, limits, roundingWork, roundingLimit}
+use Rattle.model.specs.Step.{clear, WorkedStep, workedStep, nextState, step}
+use Rattle.model.specs.Energy.{storedEnergy, work, released, loss, dotAll, residuals, limits, roundingWork, roundingLimit}
 use Rattle.model.specs.Run.{Voice, voice, energyOf, history, acceptedSteps, voiceAfter, sumOver}
 use Rattle.model.specs.declared.Setup.{Setup}
 use Rattle.model.specs.declared.Frame.{Frame}
 use Rattle.promises.specs.Promises.{Every, WithinLimits, Unforced, Claims, Run}
 use Rattle.laws.specs.Strings.{_spans_, spans-plus, dot-size}
+use Rattle.laws.specs.Clearing.{energy-released}
+use Rattle.laws.specs.Loss.{lossless-clears}
 use Rattle.laws.specs.Balance.{balance, fit}
 use Rattle.laws.specs.Positive.{energy-nonneg}
 use Rattle.laws.specs.Accepted.{SetupFacts, StepFacts, step-accepted, accepted-step, step-refused, Fitting, spans-newer, spans-older}
@@ -46,15 +48,17 @@ no-work t u = ap₂ (λ f g. pos 2 *ℤ f *ℤ at (t .moves .points) (e (t .setu
 -- what an accepted step from x to y gives
 module _ {s : Setup} {neck : Neck} {x : State} {F : Forces} {y : State} (h : StepFacts s neck x F y) where
   step-balance : let t = workedStep s neck x F in storedEnergy s y ≡ storedEnergy s x +ℤ work t -ℤ loss t +ℤ roundingWork t
-  unfolding workedStep
-  step-balance = rw (h .result) (balance (workedStep s neck x F) (fit F (h .examined)))
+  unfolding workedStep released
+  step-balance =
+      let t = workedStep s neck x F in
+      rw (h .result) (balance t (fit F (h .examined)) ∙ ap (λ e. e +ℤ work t -ℤ loss t +ℤ roundingWork t) (sym (energy-released (h .examined))))
 
   step-limits : WithinLimits (workedStep s neck x F)
   unfolding workedStep
-  step-limits = within-limits (workedStep s neck x F) (moves-nearest s x (gradients s neck x) F (h .examined .setup))
+  step-limits = within-limits (workedStep s neck x F) (moves-nearest s (clear s neck x) (workedStep s neck x F .gradients) F (h .examined .setup))
 
   pub spans-next : y .newer spans points s
-  unfolding nextState workedStep
+  unfolding nextState workedStep clear
   spans-next = rw (h .result) (spans-plus (h .examined .older) (fit F (h .examined) .moves))
 
 -- the strings keep their length
@@ -85,11 +89,11 @@ none : (v : Voice) → pos 0 ≤ℤ energyOf v → Claims v v []
 unfolding sumOver
 none v h =
     let q : energyOf v ≡ energyOf v +ℤ pos 0 -ℤ pos 0 +ℤ pos 0 = solve 1 (λ e. e ≐ e ⊕ # 0 ⊖ # 0 ⊕ # 0) tt (energyOf v) in
-    record { never-negative = h; exact = q; limited = tt; bounded = ≤-refl; conserved = conserves v v [] q ≤-refl }
+    record { never-negative = h; exact = q; limited = tt; bounded = ≤-refl; conserved = conserves v v [] q ≤-refl; lossless = λ _. tt }
 
 one : {v v' w : Voice} {t : WorkedStep} {ts : List WorkedStep} → energyOf v' ≡ energyOf v +ℤ work t -ℤ loss t +ℤ roundingWork t → WithinLimits t → Claims v' w ts → Claims v w (t ∷ ts)
 unfolding sumOver
-one {v} {v'} {w} {t} {ts} q l c = record { never-negative = c .never-negative; exact = exact; limited = (l, c .limited); bounded = bounded; conserved = conserves v w (t ∷ ts) exact bounded }
+one {v} {v'} {w} {t} {ts} q l c = record { never-negative = c .never-negative; exact = exact; limited = (l, c .limited); bounded = bounded; conserved = conserves v w (t ∷ ts) exact bounded; lossless = λ l. lossless-clears (t ∷ ts) (≤-of-eq l) }
   where
     exact : energyOf w ≡ energyOf v +ℤ sumOver work (t ∷ ts) -ℤ sumOver loss (t ∷ ts) +ℤ sumOver roundingWork (t ∷ ts)
     exact = c .exact ∙ ap (λ e. e +ℤ sumOver work ts -ℤ sumOver loss ts +ℤ sumOver roundingWork ts) q

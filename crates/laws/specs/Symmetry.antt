@@ -1,4 +1,4 @@
--- 02, item 2, the symmetry: a step of the negated voice is the negated step, where no gradient is above zero; and so is every list of steps.
+-- 02, item 2, the symmetry: a step of the negated voice is the negated step, where the last moves have no gradient above zero; and so is every list of steps.
 use mathlib.Core.Path.{_≡_, refl, sym, _∙_, ap, ap₂, subst}
 use mathlib.Core.Bool.{Bool, true, false, not, cond, _&&_}
 use mathlib.Core.List.{List, [], _∷_, _++_, map, zipWith}
@@ -19,7 +19,7 @@ use Rattle.model.specs.Differences.{at, places, plus, minus, D1, D2}
 use Rattle.model.specs.Rounding.{nearest}
 use Rattle.model.specs.State.{State, Lent, byTurn, stateOf, put, Neck, Forces}
 use Rattle.model.specs.Neck.{heightsRule}
-use Rattle.model.specs.Step.{factor, gradients, moves, workedStep, nextState, buffersRule, stateRule, stateOk, forcesRule, callRules, resultRules, stepRules, StepResult, step}
+use Rattle.model.specs.Step.{factor, clear, workedStep, nextState, buffersRule, stateRule, stateOk, forcesRule, callRules, resultRules, stepRules, StepResult, step}
 use Rattle.model.specs.Run.{history}
 use Rattle.model.specs.declared.Setup.{Setup}
 use Rattle.promises.specs.Symmetry.{Opposite, opposed, Contacts, Alike, Symmetry}
@@ -28,7 +28,7 @@ use Rattle.laws.specs.Strings.{neg-tabulate}
 use Rattle.laws.specs.Nearest.{nearest-neg}
 use Rattle.laws.specs.Moves.{factor-positive}
 use Rattle.laws.specs.Accepted.{sound, examined, stateMade, resultMade}
-use Rattle.laws.specs.Loose.{Zero, zero-gradients, side, push, pluckAt, looseMoves, moves-loose, contacts-kept, contact-length}
+use Rattle.laws.specs.Loose.{Zero, zero-gradients, side, push, pluckAt, looseMoves, worked-loose, contacts-kept, contact-length}
 
 -- ---- negated strings
 
@@ -65,10 +65,10 @@ side-neg : (s : Setup) (u v : List ℤ) (f : ℤ) (i : ℕ) → side s (neg u) (
 unfolding side
 side-neg s u v f i =
     let a = minus u v in
-    let linear : (a' d d₂ b : ℤ) → ℤ = λ a' d d₂ b. pos 8192 *ℤ a' +ℤ pos (L s) *ℤ d -ℤ pos (M s) *ℤ d₂ +ℤ pos (S s) *ℤ b +ℤ negℤ f in
+    let linear : (a' d d₂ b : ℤ) → ℤ = λ a' d d₂ b. pos 8192 *ℤ a' +ℤ pos (L s) *ℤ d -ℤ pos (M s) *ℤ d₂ +ℤ pos (S s) *ℤ b +ℤ pos 2 *ℤ pos 0 *ℤ pos 0 +ℤ negℤ f in
     ap₂ (λ a' d. linear a' d (at (D2 (neg u)) i) (at (D1 (minus (neg u) (neg v))) i)) (there a (minus-neg u v)) (there (D1 u) (D1-neg u))
     ∙ ap₂ (λ d₂ b. linear (negℤ (at a i)) (negℤ (at (D1 u) i)) d₂ b) (there (D2 u) (ap D1 (D1-neg u) ∙ D1-neg (D1 u))) (there (D1 a) (ap D1 (minus-neg u v) ∙ D1-neg a))
-    ∙ solve 8 (λ L M S a d d₂ b f. # 8192 ⊗ ⊝ a ⊕ L ⊗ ⊝ d ⊖ M ⊗ ⊝ d₂ ⊕ S ⊗ ⊝ b ⊕ ⊝ f ≐ ⊝ (# 8192 ⊗ a ⊕ L ⊗ d ⊖ M ⊗ d₂ ⊕ S ⊗ b ⊕ f)) tt
+    ∙ solve 8 (λ L M S a d d₂ b f. # 8192 ⊗ ⊝ a ⊕ L ⊗ ⊝ d ⊖ M ⊗ ⊝ d₂ ⊕ S ⊗ ⊝ b ⊕ # 2 ⊗ # 0 ⊗ # 0 ⊕ ⊝ f ≐ ⊝ (# 8192 ⊗ a ⊕ L ⊗ d ⊖ M ⊗ d₂ ⊕ S ⊗ b ⊕ # 2 ⊗ # 0 ⊗ # 0 ⊕ f)) tt
     (pos (L s)) (pos (M s)) (pos (S s)) (at a i) (at (D1 u) i) (at (D2 u) i) (at (D1 a) i) f
   where
     there : {l : List ℤ} (k : List ℤ) → l ≡ neg k → at l i ≡ negℤ (at k i)
@@ -136,7 +136,7 @@ opposite-state {v} {mirror} o = record {
   older-height = o .older-height;
 }
 
-module _ (s : Setup) (neck : Neck) (x y : State) (F : Forces) (o : OppositeState x y) (zx : Zero (gradients s neck x)) (zy : Zero (gradients s neck y)) (mass : 1 ≤ m s) where
+module _ (s : Setup) (neck : Neck) (x y : State) (F : Forces) (o : OppositeState x y) (zx : Zero (workedStep s neck x F .gradients)) (zy : Zero (workedStep s neck y (opposed F) .gradients)) (mass : 1 ≤ m s) where
   pluck-neg : (b : Bool) (f : ℤ) → cond b (negℤ f) (pos 0) ≡ negℤ (cond b f (pos 0))
   pluck-neg true f = refl
   pluck-neg false f = refl
@@ -153,14 +153,14 @@ module _ (s : Setup) (neck : Neck) (x y : State) (F : Forces) (o : OppositeState
   finger-neg = ap (λ a. nearest a (pos (m s))) (ap₂ (λ w w'. push s w w' (negℤ (F .finger))) (o .height) (o .older-height) ∙ push-neg s (x .finger .newer) (x .finger .older) (F .finger)) ∙ nearest-neg _ (suc-< (pos-≤ mass))
 
   pub next-opposite : OppositeState (nextState (workedStep s neck x F)) (nextState (workedStep s neck y (opposed F)))
-  unfolding nextState workedStep
+  unfolding nextState workedStep clear
   next-opposite =
-      let δx = moves-loose s x (gradients s neck x) F zx mass in
-      let δy = moves-loose s y (gradients s neck y) (opposed F) zy mass in
+      let δx = worked-loose s neck x F zx mass in
+      let δy = worked-loose s neck y (opposed F) zy mass in
       record {
-        newer = ap₂ plus (o .older) (ap (λ δ. δ .points) δy ∙ points-neg ∙ sym (ap (λ δ. neg (δ .points)) δx)) ∙ plus-neg (x .older) (moves s x (gradients s neck x) F .points);
+        newer = ap₂ plus (o .older) (ap (λ δ. δ .points) δy ∙ points-neg ∙ sym (ap (λ δ. neg (δ .points)) δx)) ∙ plus-neg (x .older) (workedStep s neck x F .moves .points);
         older = o .newer;
-        height = ap₂ _+ℤ_ (o .older-height) (ap (λ δ. δ .finger) δy ∙ finger-neg ∙ sym (ap (λ δ. negℤ (δ .finger)) δx)) ∙ solve 2 (λ a b. ⊝ a ⊕ ⊝ b ≐ ⊝ (a ⊕ b)) tt (x .finger .older) (moves s x (gradients s neck x) F .finger);
+        height = ap₂ _+ℤ_ (o .older-height) (ap (λ δ. δ .finger) δy ∙ finger-neg ∙ sym (ap (λ δ. negℤ (δ .finger)) δx)) ∙ solve 2 (λ a b. ⊝ a ⊕ ⊝ b ≐ ⊝ (a ⊕ b)) tt (x .finger .older) (workedStep s neck x F .moves .finger);
         older-height = o .height;
       }
 
@@ -185,7 +185,7 @@ module _ (s : Setup) (neck : Neck) (x y : State) (F : Forces) (o : OppositeState
   call-neg = ap₂ (λ a b. setupRules s ++ a ∷ heightsRule (neck .heights) ∷ (11 when not b) ∷ forcesRule (opposed F) ∷ []) buffers-neg state-neg
       ∙ ap (λ r. setupRules s ++ buffersRule s neck x ∷ heightsRule (neck .heights) ∷ stateRule x ∷ r ∷ []) forces-neg
 
-  module _ (zx : Zero (gradients s neck x)) (zy : Zero (gradients s neck y)) where
+  module _ (zx : Zero (workedStep s neck x F .gradients)) (zy : Zero (workedStep s neck y (opposed F) .gradients)) where
     x' : State
     x' = nextState (workedStep s neck x F)
 
@@ -225,7 +225,7 @@ put-opposite v mirror x y o n = record {
   older-height = n .older-height;
 }
 
-module _ (s : Setup) (neck : Neck) (v mirror : Lent) (F : Forces) (o : Opposite v mirror) (k : Contacts v mirror) (zv : Zero (gradients s neck (stateOf v))) (zm : Zero (gradients s neck (stateOf mirror))) where
+module _ (s : Setup) (neck : Neck) (v mirror : Lent) (F : Forces) (o : Opposite v mirror) (k : Contacts v mirror) (zv : Zero (workedStep s neck (stateOf v) F .gradients)) (zm : Zero (workedStep s neck (stateOf mirror) (opposed F) .gradients)) where
   turnedDown : Lent → ℕ → StepResult
   turnedDown v n = record { answer = refused n; lent = v }
 
@@ -260,5 +260,5 @@ pub symmetry : Symmetry
 unfolding history
 symmetry s neck v mirror o k [] hv hm = tt
 symmetry s neck v mirror o k (F ∷ Fs) hv hm =
-    let r = step-mirrored s neck v mirror F o k (zero-gradients s neck (stateOf v) (hv .0 .points) (hv .0 .finger)) (zero-gradients s neck (stateOf mirror) (hm .0 .points) (hm .0 .finger)) in
+    let r = step-mirrored s neck v mirror F o k (zero-gradients s neck (stateOf v) F (hv .0 .points) (hv .0 .finger)) (zero-gradients s neck (stateOf mirror) (opposed F) (hm .0 .points) (hm .0 .finger)) in
     (r .alike, r .opposite, symmetry s neck (step s neck v F .lent) (step s neck mirror (opposed F) .lent) (r .opposite) (r .contacts) Fs (hv .1) (hm .1))

@@ -1,17 +1,24 @@
 -- The hypotheses of the promises can be met.
 use mathlib.Core.Path.{refl}
-use mathlib.Core.List.{[], _∷_}
-use lib.IntN.{pos}
-use lib.Ieee.{nan}
+use mathlib.Core.List.{[], _∷_, zipWith}
+use lib.IntN.{pos, negℤ}
+use lib.Ieee.{nan, round}
 use lib.ListN.{replicate}
-use Rattle.model.specs.Ranges.{between, inside, displacementOk, heightOk}
+use Rattle.model.specs.Ranges.{between, inside, displacementOk, contactOk, forceOk, heightOk}
 use Rattle.model.specs.Setup.{setup, setupRules, placeOk, lengthOk}
 use Rattle.model.specs.Neck.{Plan, neckRules, laid, lay}
+use Rattle.model.specs.Differences.{plus, minus, times, D1}
+use Rattle.model.specs.Gradient.{gradient, root, greatest}
+use Rattle.model.specs.Rounding.{nearest, floor}
+use Rattle.model.specs.System.{rounded₁, rounded₂}
+use Rattle.model.specs.Fraction.{fraction}
+use Rattle.model.specs.State.{Lent, stateOf, put, Neck}
+use Rattle.model.specs.Step.{gradients, clear, cleared, kept, letGo, moves, A, c, system, nextState, pulls, left, totals, somePull, dropped, settled, workedStep, callRules, resultRules, stepRules, frame, step}
 use Rattle.model.specs.Start.{fresh, startRules, start}
 use Rattle.model.specs.Run.{voice}
-use Rattle.model.specs.Bench.{benchSetup, bench, flatNeck, restingFinger, onePoint, forces}
-use Rattle.promises.specs.Promises.{Run, PlaysNoPart}
-use Rattle.laws.specs.Demands.{demand3, longer-samples}
+use Rattle.model.specs.Bench.{benchSetup, bench, flatNeck, finger, restingFinger, onePoint, forces}
+use Rattle.promises.specs.Promises.{Run, PlaysNoPart, NonePulls}
+use Rattle.laws.specs.Demands.{no-contact-pulls, demand3, longer-samples}
 
 -- ---- demand 3, all at once: the neck is laid with another setup than the one that plays; of the three steps the second is refused
 
@@ -26,3 +33,15 @@ witness = demand3 bench refl (benchSetup 1 0 0 0 9) refl refl plan (pos 3 ∷ []
 
 surplus : PlaysNoPart bench (flatNeck 64) (onePoint (pos 0) (pos 0) (pos 0) 0 restingFinger) (pos 2048 ∷ pos 0 ∷ pos 2000000000 ∷ pos 0 ∷ []) (replicate 4 nan) (replicate 3 nan)
 surplus = longer-samples .surplus _ _ _ _ (replicate 4 nan) (replicate 3 nan) refl
+
+-- ---- 02, item 3: a step in which both contacts pull at first is accepted
+abbrev neck : Neck
+neck = record { heights = negℤ (pos 4) ∷ []; stiffness = 65535 ∷ [] }
+
+abbrev lent : Lent
+lent = onePoint (negℤ (pos 26)) (negℤ (pos 58)) (pos 127) 0 (finger (negℤ (pos 46)) (negℤ (pos 67)) (pos 26))
+
+together : let s = benchSetup 4000 0 0 0 64 in let F = forces (pos 0) (pos 0) in NonePulls (workedStep s neck (stateOf lent) F) (stateOf (step s neck lent F .lent))
+unfolding setupRules placeOk lengthOk between inside displacementOk contactOk forceOk heightOk step stepRules callRules resultRules stateOf put frame fraction round workedStep clear
+    cleared kept letGo settled somePull dropped totals pulls left nextState gradients gradient root greatest moves A c system rounded₁ rounded₂ nearest floor plus minus times zipWith D1
+together = no-contact-pulls (benchSetup 4000 0 0 0 64) neck lent (forces (pos 0) (pos 0)) _ refl

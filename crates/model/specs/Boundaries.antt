@@ -18,7 +18,7 @@ use Rattle.model.specs.System.{rounded₁, rounded₂}
 use Rattle.model.specs.State.{State, Lent, stateOf, Forces, Neck}
 use Rattle.model.specs.Neck.{Plan, neckRules}
 use Rattle.model.specs.Start.{startRules}
-use Rattle.model.specs.Step.{stepRules, callRules, resultRules, gradients, moves, workedStep, nextState, A, c, system}
+use Rattle.model.specs.Step.{stepRules, callRules, resultRules, gradients, moves, workedStep, nextState, A, c, system, clear, cleared, kept, letGo, settled, somePull, dropped, totals, pulls, left}
 use Rattle.model.specs.Block.{blockRules}
 use Rattle.model.specs.Reading.{readingRules}
 use Rattle.model.specs.Table.{Line, _gives_, Right}
@@ -220,6 +220,6 @@ rows = setupRows ++ neckRows ++ startRows ++ stepRows ++ blockRows ++ readingRow
 boundaries : Right rows
 unfolding rows setupRows neckRows startRows stepRows blockRows readingRows setupOf neckOf from startOf stepOf string fingerAt blockOf readingOf
     setupRules neckRules startRules stepRules callRules resultRules blockRules readingRules placeOk lengthOk between inside heightOk displacementOk
-    contactOk forceOk stateOf gradients gradient root greatest moves workedStep nextState A c system rounded₁ rounded₂ nearest floor plus minus times
-    zipWith D1
+    contactOk forceOk stateOf gradients gradient root greatest moves workedStep clear cleared kept letGo settled somePull dropped totals pulls left
+    nextState A c system rounded₁ rounded₂ nearest floor plus minus times zipWith D1
 boundaries = refl

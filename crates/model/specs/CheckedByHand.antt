@@ -14,7 +14,7 @@ use Rattle.model.specs.Gradient.{gradient, root, greatest}
 use Rattle.model.specs.Rounding.{nearest, floor}
 use Rattle.model.specs.System.{rounded₁, rounded₂}
 use Rattle.model.specs.State.{Lent, stateOf, put, Forces, Neck}
-use Rattle.model.specs.Step.{StepResult, step, stepRules, callRules, resultRules, gradients, moves, workedStep, nextState, frame, A, c, system}
+use Rattle.model.specs.Step.{StepResult, step, stepRules, callRules, resultRules, gradients, moves, workedStep, nextState, frame, A, c, system, clear, cleared, kept, letGo, settled, somePull, dropped, totals, pulls, left}
 use Rattle.model.specs.Start.{StartResult, start, startRules, fresh}
 use Rattle.model.specs.Fraction.{fraction}
 use Rattle.model.specs.Energy.{storedEnergy, work, residuals, dotAll, roundingWork}
@@ -118,6 +118,7 @@ lines =
 pub checked-by-hand : Right lines
 unfolding lines inTurn plucks after one minus-one zero-float minus-twelve sixteen stored unforced onNeck onNeck' pressing pressing' setup start
     startRules fresh stateOf put step stepRules callRules resultRules setupRules placeOk lengthOk between inside heightOk displacementOk contactOk
-    forceOk gradients gradient root greatest moves workedStep nextState A c system rounded₁ rounded₂ nearest floor plus minus times zipWith D1 dot E
-    sum storedEnergy work residuals dotAll roundingWork fraction frame round
+    forceOk gradients gradient root greatest moves workedStep clear cleared kept letGo settled somePull dropped totals pulls left nextState A c
+    system rounded₁ rounded₂ nearest floor plus minus times zipWith D1 dot E sum storedEnergy work residuals dotAll roundingWork fraction frame
+    round
 checked-by-hand = refl

@@ -1,4 +1,4 @@
--- 01, 'Energy': the stored energy of a state; loss, work, residuals, limits and rounding work of a step that was worked out.
+-- 01, 'Energy', and 02, item 3: the stored energy of a state; loss, work, residuals, limits and rounding work of a step that was worked out.
 use mathlib.Core.List.{map}
 use lib.IntN.{ℤ, pos, _+ℤ_, _-ℤ_, _*ℤ_}
 use Rattle.integers.specs.Size.{size}
@@ -30,12 +30,16 @@ abbrev pub sizes : PointsAndFinger → PointsAndFinger
 sizes a = record { points = map size (a .points); finger = size (a .finger) }
 
 module _ (t : WorkedStep) where
-  -- by plain and by viscous loss
+  -- the energy let go before the step: twice the square of each cleared variable
+  unfoldable pub released : ℤ
+  released = pos 2 *ℤ dotAll (t .cleared) (t .cleared)
+
+  -- by plain and by viscous loss, and what was let go
   unfoldable pub loss : ℤ
   loss =
       let s = t .setup in
       let δ = t .moves .points in
-      pos 2 *ℤ pos (Z s) *ℤ dot δ δ +ℤ pos (S s) *ℤ E δ δ
+      pos 2 *ℤ pos (Z s) *ℤ dot δ δ +ℤ pos (S s) *ℤ E δ δ +ℤ released
 
   -- of the pluck force at e, and of the finger force
   unfoldable pub work : ℤ

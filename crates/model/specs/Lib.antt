@@ -1,4 +1,4 @@
--- Document 01 as definitions, a file for each of its sections, and its worked examples, computed.
+-- Documents 01 and 02 as definitions, a file for each section of 01, and their worked examples, computed.
 pub mod Ranges
 pub mod Refusal
 pub mod Setup
@@ -21,5 +21,6 @@ pub mod Bench
 pub mod CheckedByHand
 pub mod Worked
 pub mod Ties
+pub mod WorkedDrops
 pub mod WorkedCalls
 pub mod Boundaries

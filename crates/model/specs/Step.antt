@@ -1,14 +1,16 @@
--- 01, 'One step', in parts: the gradients; the moves, with any gradients; the next state, with any moves; the refusals; the call.
-use mathlib.Core.Bool.{Bool, _&&_, not, cond}
+-- 01, 'One step', and 02, item 3, in parts: the state after clearing; the gradients; the moves, with any gradients; the next state, with any moves;
+-- contacts that pull are dropped, and the moves worked out again; the refusals; the call.
+use mathlib.Core.Bool.{Bool, true, false, _&&_, _||_, not, cond}
 use mathlib.Core.List.{List, [], _∷_, _++_, zipWith}
-use Prim.Native.Nat.{ℕ}
+use Prim.Native.Nat.{ℕ, zero, suc}
 use lib.Dec.{eqb}
 use lib.IntN.{ℤ, pos, negℤ, _+ℤ_, _-ℤ_, _*ℤ_}
+use lib.Signed.{leZ, ltZ}
 use lib.Ieee.{binary32}
 use lib.ListN.{length}
-use Rattle.model.specs.Ranges.{all, displacementOk, contactOk, forceOk}
+use Rattle.model.specs.Ranges.{all, any, displacementOk, contactOk, forceOk}
 use Rattle.model.specs.Refusal.{Rule, _when_, firstOf, Answer, accepted, refused, unless}
-use Rattle.model.specs.Setup.{L, M, S, Z, K, m, p, e, points, lengthsRule, setupRules}
+use Rattle.model.specs.Setup.{N, L, M, S, Z, K, m, p, e, points, lengthsRule, setupRules}
 use Rattle.model.specs.Differences.{at, places, plus, minus, times, D1, D2}
 use Rattle.model.specs.Gradient.{gradient}
 use Rattle.model.specs.Rounding.{nearest}
@@ -20,14 +22,39 @@ use Rattle.model.specs.declared.Setup.{Setup}
 use Rattle.model.specs.declared.Finger.{Finger}
 use Rattle.model.specs.declared.Frame.{Frame}
 
--- ---- the gradients, from the newer values
+-- ---- depths and gradients, from the newer values
 
--- G for the depths height − u, g for the depth u(p) − w
+-- height − u at each point, u(p) − w of the finger
+abbrev pub depths : Setup → Neck → State → PointsAndFinger
+depths s neck x = record { points = minus (neck .heights) (x .newer); finger = at (x .newer) (p s) -ℤ x .finger .newer }
+
+-- G of each point, g of the finger
 unfoldable pub gradients : Setup → Neck → State → PointsAndFinger
-gradients s neck x = record {
-  points = zipWith gradient (neck .stiffness) (minus (neck .heights) (x .newer));
-  finger = gradient (K s) (at (x .newer) (p s) -ℤ x .finger .newer);
-}
+gradients s neck x = let d = depths s neck x in record { points = zipWith gradient (neck .stiffness) (d .points); finger = gradient (K s) (d .finger) }
+
+-- ---- before the step: ψ becomes 0 wherever the depth is at most 0, and φ likewise
+
+-- what is kept of a contact variable at the depth d, and what is let go
+unfoldable pub kept : ℤ → ℤ → ℤ
+kept d ψ = cond (leZ d (pos 0)) (pos 0) ψ
+
+unfoldable pub letGo : ℤ → ℤ → ℤ
+letGo d ψ = cond (leZ d (pos 0)) ψ (pos 0)
+
+-- the state after clearing
+unfoldable pub clear : Setup → Neck → State → State
+clear s neck x =
+    let d = depths s neck x in
+    record {
+      newer = x .newer;
+      older = x .older;
+      contact = zipWith kept (d .points) (x .contact);
+      finger = record { newer = x .finger .newer; older = x .finger .older; contact = kept (d .finger) (x .finger .contact) };
+    }
+
+-- the variables that are cleared, 0 for each other one
+unfoldable pub cleared : Setup → Neck → State → PointsAndFinger
+cleared s neck x = let d = depths s neck x in record { points = zipWith letGo (d .points) (x .contact); finger = letGo (d .finger) (x .finger .contact) }
 
 -- ---- the moves, with any gradients
 
@@ -82,16 +109,19 @@ module _ (s : Setup) (x : State) (G : PointsAndFinger) (F : Forces) where
 
 -- ---- a step worked out, and the next state
 
--- the setup and the state before the step, the gradients, the forces and the moves: loss, work, residuals and limits are functions of these
+-- the setup, the state that the moves start from, what was cleared before it, the gradients, the forces and the moves: loss, work, residuals and limits
+-- are functions of these
 pub record WorkedStep : Type 0 where
   pub setup : Setup
   pub before : State
+  pub cleared : PointsAndFinger
   pub gradients : PointsAndFinger
   pub forces : Forces
   pub moves : PointsAndFinger
 
-unfoldable pub workedStep : Setup → Neck → State → Forces → WorkedStep
-workedStep s neck x F = let G = gradients s neck x in record { setup = s; before = x; gradients = G; forces = F; moves = moves s x G F }
+-- the moves worked out with the gradients G
+abbrev pub working : Setup → State → PointsAndFinger → Forces → PointsAndFinger → WorkedStep
+working s x Γ F G = record { setup = s; before = x; cleared = Γ; gradients = G; forces = F; moves = moves s x G F }
 
 -- new string v + δ, new finger height w' + δw, new ψ = ψ − G·δ, new φ = φ + g·(δ − δw)
 unfoldable pub nextState : WorkedStep → State
@@ -109,6 +139,43 @@ nextState t =
         contact = x .finger .contact +ℤ G .finger *ℤ (at (δ .points) (p (t .setup)) -ℤ δ .finger);
       };
     }
+
+-- ---- contacts that pull
+
+-- a contact of gradient above zero whose old and new variable sum below zero
+unfoldable pub pulls : ℤ → ℤ → Bool
+pulls g total = ltZ (pos 0) g && ltZ total (pos 0)
+
+-- its gradient is replaced by 0
+unfoldable pub left : ℤ → ℤ → ℤ
+left g total = cond (pulls g total) (pos 0) g
+
+-- old + new variable of each contact
+unfoldable pub totals : WorkedStep → PointsAndFinger
+totals t =
+    let x = t .before in
+    let y = nextState t in
+    record { points = plus (x .contact) (y .contact); finger = x .finger .contact +ℤ y .finger .contact }
+
+unfoldable pub somePull : WorkedStep → Bool
+somePull t = let G = t .gradients in let q = totals t in any (λ b. b) (zipWith pulls (G .points) (q .points)) || pulls (G .finger) (q .finger)
+
+-- the gradients without those that pull, all dropped together
+unfoldable pub dropped : WorkedStep → PointsAndFinger
+dropped t = let G = t .gradients in let q = totals t in record { points = zipWith left (G .points) (q .points); finger = left (G .finger) (q .finger) }
+
+-- the moves are worked out, with what pulls dropped again and again, until none pulls: the gradients of the last moves. Each time one contact more has
+-- gradient 0, so that n times are enough for n contacts.
+unfoldable pub settled : Setup → State → PointsAndFinger → Forces → ℕ → PointsAndFinger → PointsAndFinger
+settled s x Γ F zero G = G
+settled s x Γ F (suc n) G = let t = working s x Γ F G in elim (somePull t) [ true ↦ settled s x Γ F n (dropped t) | false ↦ G ]
+
+-- the last working, from the state after clearing; the contacts are the N − 1 points and the finger
+unfoldable pub workedStep : Setup → Neck → State → Forces → WorkedStep
+workedStep s neck x F =
+    let y = clear s neck x in
+    let Γ = cleared s neck x in
+    working s y Γ F (settled s y Γ F (N s) (gradients s neck x))
 
 -- ---- the refusals
 

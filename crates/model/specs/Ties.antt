@@ -3,12 +3,12 @@ use mathlib.Core.Path.{_≡_, refl}
 use mathlib.Core.List.{List, [], _∷_, zipWith}
 use Prim.Native.Nat.{ℕ}
 use lib.IntN.{ℤ, pos, negℤ}
-use Rattle.model.specs.Differences.{minus, D1}
+use Rattle.model.specs.Differences.{plus, minus, times, D1}
 use Rattle.model.specs.Gradient.{gradient, root, greatest}
 use Rattle.model.specs.Rounding.{nearest, floor}
 use Rattle.model.specs.System.{rounded₁, rounded₂}
 use Rattle.model.specs.State.{Lent, stateOf, Neck}
-use Rattle.model.specs.Step.{gradients, moves, workedStep, A, c, system}
+use Rattle.model.specs.Step.{gradients, clear, kept, moves, nextState, totals, pulls, somePull, settled, workedStep, A, c, system}
 use Rattle.model.specs.Bench.{benchSetup, flatNeck, finger, onePoint, forces}
 use Rattle.model.specs.Worked.{flat}
 use Rattle.model.specs.declared.Setup.{Setup}
@@ -28,7 +28,8 @@ movesOf K v f g = flat (workedStep (benchSetup 1 0 0 0 K) (flatNeck 0) (stateOf 
 odd-displacements-are : let v = onePoint (pos 1) (pos 1) (pos 0) 0 (finger (pos 1) (pos 1) (pos 0)) in
     movesOf 0 v (pos 2050) (pos 2048) ∷ movesOf 0 v (negℤ (pos 2046)) (negℤ (pos 2048)) ∷ movesOf 0 v (pos 6146) (pos 6144) ∷ []
     ≡ (pos 0 ∷ pos 0 ∷ []) ∷ (pos 0 ∷ pos 0 ∷ []) ∷ (pos 2 ∷ pos 2 ∷ []) ∷ []
-unfolding movesOf stateOf workedStep gradients gradient root greatest moves A c system rounded₁ rounded₂ nearest floor minus zipWith D1
+unfolding movesOf stateOf workedStep clear kept settled somePull totals pulls nextState gradients gradient root greatest moves A c system rounded₁ rounded₂ nearest floor
+    plus minus times zipWith D1
 odd-displacements-are = refl
 
 -- in contact with the finger, g = 8: both solutions 1/2, 3/2, 5/2 and −1/2, −3/2
@@ -36,7 +37,8 @@ in-contact-are : let v = onePoint (pos 16) (pos 16) (pos 0) 0 (finger (pos 0) (p
     movesOf 64 v (pos 2080) (pos 2048) ∷ movesOf 64 v (pos 6176) (pos 6144) ∷ movesOf 64 v (pos 10272) (pos 10240) ∷ movesOf 64 v (negℤ (pos 2016)) (negℤ (pos 2048))
     ∷ movesOf 64 v (negℤ (pos 6112)) (negℤ (pos 6144)) ∷ []
     ≡ (pos 0 ∷ pos 0 ∷ []) ∷ (pos 2 ∷ pos 2 ∷ []) ∷ (pos 2 ∷ pos 2 ∷ []) ∷ (pos 0 ∷ pos 0 ∷ []) ∷ (negℤ (pos 2) ∷ negℤ (pos 2) ∷ []) ∷ []
-unfolding movesOf stateOf workedStep gradients gradient root greatest moves A c system rounded₁ rounded₂ nearest floor minus zipWith D1
+unfolding movesOf stateOf workedStep clear kept settled somePull totals pulls nextState gradients gradient root greatest moves A c system rounded₁ rounded₂ nearest floor
+    plus minus times zipWith D1
 in-contact-are = refl
 
 -- away from p: N = 3, the finger at place 2, the string at 1 at place 1 and 0 at place 2; 1/2, −1/2, 3/2
@@ -60,5 +62,6 @@ awayOf : ℤ → List ℤ
 awayOf f = flat (workedStep threeSegments level (record { newer = pos 1 ∷ pos 0 ∷ []; older = pos 1 ∷ pos 0 ∷ []; contact = pos 0 ∷ pos 0 ∷ []; finger = finger (pos 0) (pos 0) (pos 0) }) (forces f (pos 0)) .moves)
 
 away-are : awayOf (pos 2050) ∷ awayOf (negℤ (pos 2046)) ∷ awayOf (pos 6146) ∷ [] ≡ (pos 0 ∷ pos 0 ∷ pos 0 ∷ []) ∷ (pos 0 ∷ pos 0 ∷ pos 0 ∷ []) ∷ (pos 2 ∷ pos 0 ∷ pos 0 ∷ []) ∷ []
-unfolding awayOf threeSegments level workedStep gradients gradient root greatest moves A c system rounded₁ rounded₂ nearest floor minus zipWith D1
+unfolding awayOf threeSegments level workedStep clear kept settled somePull totals pulls nextState gradients gradient root greatest moves A c system rounded₁ rounded₂ nearest floor
+    plus minus times zipWith D1
 away-are = refl

@@ -18,8 +18,8 @@ use Rattle.model.specs.System.{rounded₁, rounded₂}
 use Rattle.model.specs.State.{Lent, stateOf, put}
 use Rattle.model.specs.Neck.{neckRules, laid, lay}
 use Rattle.model.specs.Start.{startRules, fresh, start}
-use Rattle.model.specs.Step.{gradients, moves, workedStep, nextState, A, c, system, callRules, resultRules, stepRules, frame, step}
-use Rattle.model.specs.Energy.{storedEnergy, loss, work, residuals, limits, dotAll, roundingWork, roundingLimit}
+use Rattle.model.specs.Step.{gradients, moves, workedStep, nextState, A, c, system, callRules, resultRules, stepRules, frame, step, clear, cleared, kept, letGo, settled, somePull, dropped, totals, pulls, left}
+use Rattle.model.specs.Energy.{storedEnergy, loss, released, work, residuals, limits, dotAll, roundingWork, roundingLimit}
 use Rattle.model.specs.Fraction.{fraction}
 use Rattle.model.specs.Block.{block, blockRules, play}
 use Rattle.model.specs.Reading.{reading, readingRules}
@@ -64,27 +64,28 @@ not-started-is = refl
 lent : Lent
 lent = record { first = before .older; second = before .newer; contact = before .contact; turn = 7; finger = before .finger }
 
--- after a second step, in which the finger's point lies on the neck too
+-- after a second step, in which the finger's point lies on the neck and pulls
 lent₂ : Lent
 lent₂ = record {
   first = stateAfter .newer;
-  second = negℤ (pos 44) ∷ negℤ (pos 10) ∷ negℤ (pos 11) ∷ pos 12 ∷ [];
-  contact = negℤ (pos 6) ∷ pos 2196 ∷ negℤ (pos 915) ∷ pos 2636 ∷ [];
+  second = pos 68 ∷ pos 49 ∷ negℤ (pos 55) ∷ pos 24 ∷ [];
+  contact = pos 0 ∷ pos 0 ∷ pos 0 ∷ pos 1598 ∷ [];
   turn = 1;
-  finger = finger (negℤ (pos 32)) (negℤ (pos 23)) (pos 651);
+  finger = finger (negℤ (pos 20)) (negℤ (pos 8)) (pos 0);
 }
 
--- its limits: A at place 2 is 10,250, g is 206
-limits-on-neck-are : flat (limits (workedStep workedSetup workedNeck stateAfter (forces (negℤ (pos 2500)) (pos 4000)))) ≡ pos 35850 ∷ pos 95122 ∷ pos 4166 ∷ pos 13002 ∷ pos 87872 ∷ []
-unfolding workedStep limits gradients gradient root greatest A minus zipWith
+-- its limits: only place 4 keeps its gradient, 94
+limits-on-neck-are : flat (limits (workedStep workedSetup workedNeck stateAfter (forces (negℤ (pos 2500)) (pos 4000)))) ≡ pos 4166 ∷ pos 4166 ∷ pos 4166 ∷ pos 13002 ∷ pos 3000 ∷ []
+unfolding workedStep clear cleared kept letGo settled somePull dropped totals pulls left nextState moves c system rounded₁ rounded₂ nearest floor
+    plus times D1 limits gradients gradient root greatest A minus zipWith
 limits-on-neck-are = refl
 
 -- a block of four steps, the third with a force out of range
 played-is : block workedSetup workedNeck lent (pos 12345 ∷ negℤ (pos 6789) ∷ negℤ (pos 2500) ∷ pos 4000 ∷ pos 0 ∷ pos 1073741825 ∷ pos 5 ∷ pos 5 ∷ []) (replicate 8 nan)
-    ≡ record { count = 2; refusal = 12; lent = lent₂; samples = fin true 11 (negsuc 18) ∷ over true 19 ∷ fin true 11 (negsuc 17) ∷ fin false 3 (negsuc 17) ∷ replicate 4 nan }
+    ≡ record { count = 2; refusal = 12; lent = lent₂; samples = over false 137 ∷ over true 19 ∷ fin false 17 (negsuc 17) ∷ fin false 3 (negsuc 16) ∷ replicate 4 nan }
 unfolding lent lent₂ over block blockRules play step stepRules callRules resultRules setupRules placeOk lengthOk between inside heightOk
-    displacementOk contactOk forceOk stateOf put workedStep nextState frame fraction round gradients gradient root greatest moves A c system rounded₁
-    rounded₂ nearest floor plus minus times zipWith D1
+    displacementOk contactOk forceOk stateOf put workedStep clear cleared kept letGo settled somePull dropped totals pulls left nextState frame
+    fraction round gradients gradient root greatest moves A c system rounded₁ rounded₂ nearest floor plus minus times zipWith D1
 played-is = refl
 
 -- a block whose forces end, in a longer sample buffer
@@ -93,11 +94,11 @@ ended-is : block workedSetup workedNeck lent (pos 12345 ∷ negℤ (pos 6789) �
       count = 1;
       refusal = 0;
       lent = record { first = stateAfter .newer; second = before .newer; contact = stateAfter .contact; turn = 0; finger = stateAfter .finger };
-      samples = fin true 11 (negsuc 18) ∷ over true 19 ∷ replicate 3 nan;
+      samples = over false 137 ∷ over true 19 ∷ replicate 3 nan;
     }
 unfolding lent lent₂ over block blockRules play step stepRules callRules resultRules setupRules placeOk lengthOk between inside heightOk
-    displacementOk contactOk forceOk stateOf put workedStep nextState frame fraction round gradients gradient root greatest moves A c system rounded₁
-    rounded₂ nearest floor plus minus times zipWith D1
+    displacementOk contactOk forceOk stateOf put workedStep clear cleared kept letGo settled somePull dropped totals pulls left nextState frame
+    fraction round gradients gradient root greatest moves A c system rounded₁ rounded₂ nearest floor plus minus times zipWith D1
 ended-is = refl
 
 -- blocks turned down with 15, 6 for the contact variables and 11 for the older string: nothing is written
@@ -121,7 +122,8 @@ not-read-are : reading workedSetup (workedNeck .heights) (lent .first) (lent .se
 unfolding lent reading readingRules setupRules placeOk lengthOk between inside heightOk displacementOk
 not-read-are = refl
 
--- a step refused for the last of several points: 7; 11 in the newer string, the older one and the contact variables; 13; 14 above and below
+-- a step refused for the last of several points: 7; 11 in the newer string, the older one and the contact variables; 13; 14; the last is accepted,
+-- since its contact pulls: by the first moves it would be 14
 last : ℤ → List ℤ
 last z = pos 0 ∷ pos 0 ∷ pos 0 ∷ z ∷ []
 
@@ -130,9 +132,10 @@ refusalOf hs u v ψ = firstOf (stepRules workedSetup (record { heights = hs; sti
 
 last-points-are : let rest = replicate 4 (pos 0) in refusalOf (last (pos 1)) rest rest rest ∷ refusalOf rest (last (pos 1048577)) rest rest ∷ refusalOf rest rest (last (negℤ (pos 1048577))) rest ∷ refusalOf rest rest rest (last (pos 67108865))
     ∷ refusalOf rest (last (pos 1048576)) (last (negℤ (pos 1048576))) rest ∷ refusalOf rest (last (negℤ (pos 17))) (last (pos 1048576)) (last (negℤ (pos 40000000)))
-    ∷ refusalOf rest (last (negℤ (pos 17))) (last (negℤ (pos 1048576))) (last (pos 40000000)) ∷ [] ≡ 7 ∷ 11 ∷ 11 ∷ 11 ∷ 13 ∷ 14 ∷ 14 ∷ []
+    ∷ refusalOf rest (last (negℤ (pos 17))) (last (negℤ (pos 1048576))) (last (pos 40000000)) ∷ [] ≡ 7 ∷ 11 ∷ 11 ∷ 11 ∷ 13 ∷ 14 ∷ 0 ∷ []
 unfolding last refusalOf stepRules callRules resultRules setupRules placeOk lengthOk between inside heightOk displacementOk contactOk forceOk
-    gradients gradient root greatest moves workedStep nextState A c system rounded₁ rounded₂ nearest floor plus minus times zipWith D1
+    gradients gradient root greatest moves workedStep clear cleared kept letGo settled somePull dropped totals pulls left nextState A c system
+    rounded₁ rounded₂ nearest floor plus minus times zipWith D1
 last-points-are = refl
 
 -- ---- a run of the bench voice with L = 100, M = 10, S = 50 and Z = 100 whose second step is refused
@@ -147,8 +150,9 @@ calls = history (flatNeck 0) start-voice (forces (pos 409600) (pos 777) ∷ forc
 run-is : let ts = acceptedSteps (flatNeck 0) calls in sumOver work ts ∷ sumOver loss ts ∷ sumOver roundingWork ts ∷ sumOver roundingLimit ts ∷ energyOf (voiceAfter start-voice calls) ∷ []
     ≡ pos 80281600 ∷ pos 12927900 ∷ negℤ (pos 280680) ∷ pos 1179076 ∷ pos 67073020 ∷ []
 unfolding calls history acceptedSteps voiceAfter sumOver step stepRules callRules resultRules setupRules placeOk lengthOk between inside heightOk
-    displacementOk contactOk forceOk stateOf put workedStep nextState gradients gradient root greatest moves A c system rounded₁ rounded₂ nearest
-    floor plus minus times zipWith D1 dot E sum loss work residuals limits dotAll roundingWork roundingLimit storedEnergy
+    displacementOk contactOk forceOk stateOf put workedStep clear cleared kept letGo settled somePull dropped totals pulls left nextState gradients
+    gradient root greatest moves A c system rounded₁ rounded₂ nearest floor plus minus times zipWith D1 dot E sum loss released work residuals
+    limits dotAll roundingWork roundingLimit storedEnergy
 run-is = refl
 
 -- ---- what the answers come to

@@ -1,29 +1,34 @@
--- What strings, contact variables, gradients and forces in range give the code: their lengths and sizes, that each number is read back from its bits as
--- itself, and a point's equation.
-use mathlib.Core.Path.{_≡_, sym, _∙_, ap₂}
+-- What strings, contact variables, gradients and forces in range give the code: their lengths and sizes, and that each number is read back from its bits as
+-- itself.
+use mathlib.Core.Path.{_≡_, refl, sym, _∙_}
 use mathlib.Core.Bool.{Bool, true, false, cond}
 use mathlib.Core.List.{List}
-use Prim.Native.Nat.{ℕ, suc, _-_, _^_, _≤_, _<_}
+use Prim.Native.Nat.{ℕ, suc, _-_, _≤_, _<_, zero-le}
 use native.Mathlib.Omega.{arith}
 use lib.Dec.{T, eqb, lit<}
 use lib.IntN.{ℤ, pos}
+use lib.Signed.{_≤ℤ_}
 use lib.ListN.{getD}
 use mir.Syntax.{w32}
 use mir.Val.{toZ, ofZ}
 use Rattle.integers.specs.Bits.{back}
-use Rattle.integers.specs.Size.{_within_, wide}
+use Rattle.integers.specs.Order.{≤-refl}
+use Rattle.integers.specs.Size.{_within_, natural}
 use Rattle.model.specs.Ranges.{all, inside, displacementOk, contactOk, forceOk}
 use Rattle.model.specs.Setup.{e, p, points}
-use Rattle.model.specs.Differences.{at}
-use Rattle.model.specs.Step.{factor, rightSide}
+use Rattle.model.specs.Differences.{at, minus}
+use Rattle.model.specs.Gradient.{gradient}
+use Rattle.model.specs.Step.{kept}
 use Rattle.model.specs.declared.Setup.{Setup}
 use Rattle.laws.specs.Accepted.{SetupFacts, setup-facts}
+use Rattle.laws.specs.Gradient.{gradient-size, gradient-nonneg}
+use Rattle.laws.specs.LastMoves.{freeSide}
+use Rattle.laws.specs.Pulling.{zip-each}
 use Rattle.laws.specs.Refusals.{at-all}
-use Rattle.laws.specs.Sizes.{bounded, inside-within, only, side-size}
-use Rattle.laws.specs.Strings.{_spans_}
+use Rattle.laws.specs.Sizes.{freeSize, bounded, inside-within, only, free-size, kept-within}
+use Rattle.laws.specs.Strings.{_spans_, spans-minus, at-zip}
 use Rattle.motion.specs.Weighted.{StringRanges}
-use Rattle.motion.specs.MoveRanges.{MoveRanges, sideAt}
-use Rattle.motion.specs.declared.equation.Equation.{Equation}
+use Rattle.motion.specs.MoveRanges.{PointRanges, keptContacts, gradientsAt}
 
 -- a string of displacements
 module _ (u : List ℤ) (h : T (all displacementOk u)) where
@@ -67,21 +72,29 @@ module _ {s : Setup} {u v : List ℤ} (h : StringRanges s u v) where
   pub finger-point : p s - 1 < points s
   finger-point = let k = facts .first in let l = facts .last in omega arith
 
--- the right side of a point's equation
-pub side-within : {s : Setup} {u v ψ : List ℤ} {f : ℤ} → MoveRanges s u v ψ f → {G : ℤ} → G within 255 → (i : ℕ) → sideAt s u v ψ f G i within 2 ^ 37
-unfolding displacementOk contactOk forceOk
-side-within {s} {u} {v} {ψ} {f} h g i =
-    let k = h .strings in
-    wide (side-size (facts k) g (k .newer-length ∙ sym (k .older-length)) (bounded 1048576 u (k .newer)) (bounded 1048576 v (k .older))
-    (bounded 67108864 ψ (h .contact) i) (only (eqb i (e s)) (inside-within 1073741824 f (h .force))) i) tt
+-- the points over the neck
+module _ {s : Setup} {h : List ℤ} {k : List ℕ} {u v ψ : List ℤ} {f : ℤ} (r : PointRanges s h k u v ψ f) where
+  depths-span : minus h u spans points s
+  depths-span = spans-minus (record { long = r .heights-length }) (newer-spans (r .strings))
 
--- the equation of the point at place i, read from its gradient and the force there
-module _ (s : Setup) (u v ψ : List ℤ) (f : ℤ) (i : ℕ) where
-  abbrev pub equationAt : ℤ → Equation
-  equationAt G = record { factor = factor s G; side = sideAt s u v ψ f G i }
+  -- a contact variable after clearing
+  pub kept-size : (i : ℕ) → at (keptContacts h u ψ) i within 67108864
+  unfolding kept
+  kept-size i = rw (at-zip kept refl depths-span (record { long = r .contact-length }) i) (kept-within (at (minus h u) i) (at ψ i) (contact-size ψ (r .contact) i))
 
-  pub equation-is : {q : Equation} {G G' f' : ℤ} → q ≡ record { factor = factor s G'; side = rightSide s u v G' (at ψ i) f' i } → G' ≡ G → f' ≡ cond (eqb i (e s)) f (pos 0) → q ≡ equationAt G
-  equation-is e g h = e ∙ ap₂ (λ G f. record { factor = factor s G; side = rightSide s u v G (at ψ i) f i }) g h
+  -- c without the contact
+  pub side-within : (i : ℕ) → freeSide s u v ψ (gradientsAt k h u) f i within freeSize
+  unfolding displacementOk forceOk
+  side-within i =
+      let q = r .strings in
+      free-size (facts q) (q .newer-length ∙ sym (q .older-length)) (bounded 1048576 u (q .newer)) (bounded 1048576 v (q .older)) (only (eqb i (e s)) (inside-within 1073741824 f (r .force))) i
+
+-- a gradient
+pub gradient-within : (k : List ℕ) (h u : List ℤ) (i : ℕ) → at (gradientsAt k h u) i within 255
+gradient-within k h u = zip-each (λ g. g within 255) (natural zero-le) gradient 0 k (minus h u) (λ j. gradient-size _)
+
+pub gradient-low : (k : List ℕ) (h u : List ℤ) (i : ℕ) → pos 0 ≤ℤ at (gradientsAt k h u) i
+gradient-low k h u = zip-each (λ g. pos 0 ≤ℤ g) ≤-refl gradient 0 k (minus h u) (λ j. gradient-nonneg _)
 
 pub force-ok : (f : ℤ) (b : Bool) → T (forceOk f) → T (forceOk (cond b f (pos 0)))
 unfolding forceOk inside

@@ -1,24 +1,28 @@
--- The ranges of what the moves are worked out from, as a step's refusals 1 to 12 leave them, and the moves of points where no finger stands.
+-- The ranges of what the moves are worked out from, as a step's refusals 1 to 12 leave them, and the contacts of the points.
 use mathlib.Core.Path.{_≡_}
-use mathlib.Core.Bool.{cond}
-use mathlib.Core.List.{List}
-use Prim.Native.Nat.{ℕ}
-use lib.Dec.{T, eqb}
-use lib.IntN.{ℤ, pos}
+use mathlib.Core.List.{List, [], _∷_, zipWith}
+use Prim.Native.Nat.{ℕ, _^_}
+use lib.Dec.{T}
+use lib.IntN.{ℤ}
 use lib.ListN.{length}
-use Rattle.model.specs.Ranges.{all, displacementOk, contactOk, forceOk}
-use Rattle.model.specs.Setup.{e, points}
-use Rattle.model.specs.Differences.{at, places}
-use Rattle.model.specs.Rounding.{nearest}
-use Rattle.model.specs.Step.{factor, rightSide}
+use Rattle.model.specs.Ranges.{all, displacementOk, contactOk, forceOk, heightOk}
+use Rattle.model.specs.Setup.{points}
+use Rattle.model.specs.Differences.{minus}
+use Rattle.model.specs.Gradient.{gradient}
+use Rattle.model.specs.Step.{kept}
 use Rattle.model.specs.declared.Finger.{Finger}
 use Rattle.model.specs.declared.Setup.{Setup}
+use Rattle.laws.specs.MoveSizes.{moveSize}
+use Rattle.laws.specs.Sizes.{freeSize}
 use Rattle.motion.specs.Weighted.{StringRanges}
 
--- newer string u, older string v, contact variables ψ and pluck force f
-pub record MoveRanges (s : Setup) (u v ψ : List ℤ) (f : ℤ) : Type 0 where
+-- newer string u, older string v, contact variables ψ and pluck force f, over a neck of heights h and stiffnesses k
+pub record PointRanges (s : Setup) (h : List ℤ) (k : List ℕ) (u v ψ : List ℤ) (f : ℤ) : Type 0 where
   pub strings : StringRanges s u v
+  pub heights-length : length h ≡ points s
+  pub stiffness-length : length k ≡ points s
   pub contact-length : length ψ ≡ points s
+  pub heights : T (all heightOk h)
   pub contact : T (all contactOk ψ)
   pub force : T (forceOk f)
 
@@ -28,11 +32,17 @@ pub record FingerRanges (finger : Finger) : Type 0 where
   pub older : T (displacementOk (finger .older))
   pub contact : T (contactOk (finger .contact))
 
-module _ (s : Setup) (u v ψ : List ℤ) (f : ℤ) where
-  -- c of the point at place i, where its gradient is G; the pluck force acts at e
-  abbrev pub sideAt : ℤ → ℕ → ℤ
-  sideAt G i = rightSide s u v G (at ψ i) (cond (eqb i (e s)) f (pos 0)) i
+-- the contact variables of the points after clearing, and their gradients
+abbrev pub keptContacts : (h u ψ : List ℤ) → List ℤ
+keptContacts h u ψ = zipWith kept (minus h u) ψ
 
-  -- the moves with the gradients G, were there no finger
-  unfoldable pub freeMoves : List ℤ → List ℤ
-  freeMoves G = places (points s) (λ i. nearest (sideAt (at G i) i) (factor s (at G i)))
+abbrev pub gradientsAt : (k : List ℕ) (h u : List ℤ) → List ℤ
+gradientsAt k h u = zipWith gradient k (minus h u)
+
+-- how large c without the contact, a gradient and a contact variable of a point are
+abbrev pub pointSizes : List ℕ
+pointSizes = freeSize ∷ 255 ∷ 67108864 ∷ []
+
+-- of the contact variable at p, of the two gradients there, and of the moves of the point and of the finger
+abbrev pub workedSizes : List ℕ
+workedSizes = 67108864 ∷ 255 ∷ 255 ∷ moveSize ∷ 2 ^ 44 ∷ []

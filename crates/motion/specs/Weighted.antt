@@ -32,6 +32,6 @@ pub record StringRanges (s : Setup) (u v : List ℤ) : Type 0 where
 abbrev pub weightedSize : ℕ
 weightedSize = 3 * 2 ^ 32
 
--- and what a point's c is made of: string terms, newer − older displacement, gradient, contact variable, force
+-- and what c without the contact is made of: string terms, newer − older displacement, force
 abbrev pub sideSizes : List ℕ
-sideSizes = 4 * weightedSize ∷ 2097152 ∷ 255 ∷ 67108864 ∷ 1073741824 ∷ []
+sideSizes = 4 * weightedSize ∷ 2097152 ∷ 1073741824 ∷ []

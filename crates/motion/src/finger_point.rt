@@ -1,58 +1,98 @@
-// 01, 'One step': the moves of the finger and of its point, δ at p and δw.
+// 01, 'One step', and 02, item 3: the last moves of the finger and of its point, and what they lead to.
 ghost use mathlib.Core.Path.{_≡_};
+ghost use mathlib.Core.List.{[], _∷_};
 ghost use lib.Dec.{T};
+ghost use lib.IntN.{_+ℤ_, _-ℤ_, _*ℤ_};
+ghost use Rattle.integers.specs.Machine.{Within};
 ghost use Rattle.integers.specs.Size.{_within_};
+ghost use Rattle.contact.specs.Table.{rootTable};
+ghost use Rattle.laws.specs.MoveSizes.{changeSize};
 ghost use Rattle.model.specs.Ranges.{forceOk};
-ghost use Rattle.model.specs.Setup.{p};
-ghost use Rattle.model.specs.Step.{factor, fingerSystem};
-ghost use Rattle.rounding.specs.Systems.{rounded};
 ghost use Rattle.motion.specs.Weighted as Weights;
 ghost use Rattle.motion.specs.Weighted.{placed};
-ghost use Rattle.motion.specs.MoveRanges.{MoveRanges, sideAt, FingerRanges};
-use crate::equation::point_equation;
-use crate::finger_system::finger_moves;
+ghost use Rattle.motion.specs.MoveRanges.{PointRanges, FingerRanges, workedSizes};
+ghost use Rattle.motion.specs.FingerPoint.{atFinger};
+use crate::equation::free_side;
+use crate::finger_pair::WorkedPair;
+use crate::finger_pair::settle_pair;
+use crate::next_finger::new_finger;
 use crate::points::force_at;
+use contact::contacts::finger_contact;
+use contact::contacts::point_contact;
 use model::Finger;
 use model::Setup;
 use model::bounds::MOST_PLACES;
+use model::bounds::ROOT_ENTRIES;
 
-// δ at p and δw: the finger's two-by-two system, solved. `own` is the gradient of the point at p, `gradient` the finger's.
-pub fn moves_at_finger(
+// The move of the point at p and its new contact variable, and the finger's new height and contact variable, before they are judged.
+pub struct FingerPoint {
+    pub delta: i32,
+    pub contact: i32,
+    pub height: i64,
+    pub finger_contact: i64,
+}
+
+// Those that a working leads to. `contact` is the contact variable of the point, `finger` the finger after clearing.
+fn next_at_finger(contact: i32, finger: Finger, worked: WorkedPair) -> FingerPoint
+    requires { ⌜ Within (contact ∷ worked .own ∷ worked .gradient ∷ worked .delta ∷ worked .«finger_delta» ∷ []) workedSizes × ((worked .own *ℤ worked .delta) within changeSize) ⌝ }
+    ensures { λ r. ⌜ r ≡ record {
+      delta = worked .delta;
+      contact = contact -ℤ worked .own *ℤ worked .delta;
+      height = finger .older +ℤ worked .«finger_delta»;
+      «finger_contact» = finger .contact +ℤ worked .gradient *ℤ (worked .delta -ℤ worked .«finger_delta»);
+    } ⌝ }
+{
+    let own = worked.own;
+    let delta = worked.delta;
+    let next = new_finger(finger, worked.gradient, delta, worked.finger_delta);
+    FingerPoint {
+        delta: delta as i32,
+        contact: ((contact as i64) - own * delta) as i32,
+        height: next.height,
+        finger_contact: next.contact,
+    }
+}
+
+// Those of a step. `weights` is the weighted string.
+pub fn settle_finger(
     setup: Setup,
+    roots: &[u16; ROOT_ENTRIES],
+    heights: &[i32],
+    stiffness: &[u16],
     weights: &[i64; MOST_PLACES],
     newer: &[i32],
     older: &[i32],
     contact: &[i32],
-    own: i64,
     finger: Finger,
-    gradient: i64,
     pluck: i32,
     force: i32,
-) -> [i64; 2]
-    requires { ⌜ MoveRanges setup (now newer) (now older) (now contact) pluck
+) -> FingerPoint
+    requires { ⌜ (now roots ≡ rootTable) × PointRanges setup (now heights) (now stiffness) (now newer) (now older) (now contact) pluck
         × (now weights ≡ placed (Weights.weighted setup (now newer) (now older)))
-        × (own within 255) × FingerRanges finger × (gradient within 255) × T (forceOk force) ⌝ }
-    ensures { λ r. ⌜ r ≡ rounded (fingerSystem setup finger (factor setup own)
-        (sideAt setup (now (newer .entry)) (now (older .entry)) (now (contact .entry)) pluck own (p setup)) gradient force) ⌝ }
+        × FingerRanges finger × T (forceOk force) ⌝ }
+    ensures { λ r. ⌜ r ≡ atFinger setup
+        (record { heights = now (heights .entry); stiffness = now (stiffness .entry) })
+        (record { newer = now (newer .entry); older = now (older .entry); contact = now (contact .entry); finger = finger })
+        (record { pluck = pluck; finger = force }) ⌝ }
 {
     let place = setup.finger.place as usize;
+    let own = point_contact(roots, heights, stiffness, newer, contact, place - 1);
+    let held = finger_contact(roots, setup, newer, finger);
     let pluck_at = force_at(setup, pluck, place);
-    let equation = point_equation(
+    let side = free_side(setup, weights, newer, older, pluck_at, place - 1);
+    let kept = Finger {
+        newer: finger.newer,
+        older: finger.older,
+        contact: held.variable,
+    };
+    let pair = settle_pair(
         setup,
-        weights,
-        newer,
-        older,
-        contact,
-        own,
-        pluck_at,
-        place - 1,
-    );
-    finger_moves(
-        setup,
-        finger,
-        equation.factor,
-        equation.side,
-        gradient,
+        side,
+        own.variable,
+        kept,
         force,
-    )
+        own.gradient,
+        held.gradient,
+    );
+    next_at_finger(own.variable, kept, pair)
 }

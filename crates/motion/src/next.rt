@@ -1,11 +1,11 @@
-// 01, 'One step': the new string and contact variables, from the gradients and moves of a step, and their writing once they are judged. Before
-// 13 and 14 are judged they may be out of 01's ranges, but 32 bits hold them.
+// 01, 'One step': the new string, from the moves of a step, and the writing of string and contact variables once they are judged. Before 13 is judged the new
+// string may be out of 01's range, but 32 bits hold it.
 ghost use mathlib.Core.Path.{_≡_};
 ghost use Prim.Native.Nat.{_≤_};
 ghost use lib.ListN.{length, take};
-ghost use Rattle.laws.specs.MoveSizes.{moveSize, changeSize};
+ghost use Rattle.laws.specs.MoveSizes.{moveSize};
 ghost use Rattle.laws.specs.Sizes.{Bounded};
-ghost use Rattle.model.specs.Differences.{plus, minus, times};
+ghost use Rattle.model.specs.Differences.{plus};
 use model::bounds::MOST_POINTS;
 
 // The new string, v + δ, at the front of `out`.
@@ -19,27 +19,6 @@ pub fn next_string(older: &[i32], moves: &[i32; MOST_POINTS], out: &mut [i32; MO
         let own = older[i];
         let delta = moves[i];
         out[i] = own + delta;
-    }
-}
-
-// The new contact variables, ψ − G·δ, at the front of `out`.
-pub fn next_contact(
-    contact: &[i32],
-    gradients: &[i64; MOST_POINTS],
-    moves: &[i32; MOST_POINTS],
-    out: &mut [i32; MOST_POINTS],
-)
-    requires { ⌜ (length (now contact) ≤ 127) × (length (now gradients) ≡ 127) × (length (now moves) ≡ 127) × (length (now out) ≡ 127)
-        × Bounded (now contact) 67108864 × Bounded (take (length (now contact)) (now gradients)) 255
-        × Bounded (times (take (length (now contact)) (now gradients)) (take (length (now contact)) (now moves))) changeSize ⌝ }
-    ensures { λ r. ⌜ (length (now (out .exit)) ≡ 127) × (take (length (now (contact .entry))) (now (out .exit))
-        ≡ minus (now (contact .entry)) (times (take (length (now (contact .entry))) (now (gradients .entry))) (take (length (now (contact .entry))) (now (moves .entry))))) ⌝ }
-{
-    for i in 0..contact.len() {
-        let own = contact[i];
-        let gradient = gradients[i];
-        let delta = moves[i];
-        out[i] = ((own as i64) - gradient * (delta as i64)) as i32;
     }
 }
 

@@ -1,19 +1,23 @@
-// 01, 'One step': the moves of all points, were there no finger, and where the pluck force acts.
+// 01, 'One step', and 02, item 3: the last moves and the new contact variables of all points, were there no finger, and where the pluck force acts.
 ghost use mathlib.Core.Path.{_≡_};
 ghost use mathlib.Core.Bool.{cond};
 ghost use lib.Dec.{eqb};
 ghost use lib.IntN.{pos};
 ghost use lib.ListN.{length, take};
-ghost use Rattle.laws.specs.Sizes.{Bounded};
+ghost use Rattle.contact.specs.Table.{rootTable};
+ghost use Rattle.laws.specs.LastMoves.{lastMove, lastContact};
+ghost use Rattle.model.specs.Differences.{places};
 ghost use Rattle.model.specs.Setup.{e, points};
 ghost use Rattle.motion.specs.Weighted as Weights;
 ghost use Rattle.motion.specs.Weighted.{placed};
-ghost use Rattle.motion.specs.MoveRanges.{MoveRanges, freeMoves};
-use crate::equation::point_equation;
-use crate::equation::point_move;
+ghost use Rattle.motion.specs.MoveRanges.{PointRanges, keptContacts, gradientsAt};
+use crate::equation::free_side;
+use crate::settled::settle_point;
+use contact::contacts::point_contact;
 use model::Setup;
 use model::bounds::MOST_PLACES;
 use model::bounds::MOST_POINTS;
+use model::bounds::ROOT_ENTRIES;
 
 // The pluck force at a place: it acts at e alone.
 pub fn force_at(setup: Setup, pluck: i32, place: usize) -> i32
@@ -26,27 +30,38 @@ pub fn force_at(setup: Setup, pluck: i32, place: usize) -> i32
     }
 }
 
-// The moves of all points, were there no finger, at the front of `out`. `weights` is the weighted string.
-pub fn free_moves(
+// The last moves and the new contact variables of all points, were there no finger, at the front of `moves` and of `contacts`. `weights` is the weighted
+// string.
+pub fn settle_points(
     setup: Setup,
+    roots: &[u16; ROOT_ENTRIES],
+    heights: &[i32],
+    stiffness: &[u16],
     weights: &[i64; MOST_PLACES],
     newer: &[i32],
     older: &[i32],
     contact: &[i32],
-    gradients: &[i64; MOST_POINTS],
     pluck: i32,
-    out: &mut [i32; MOST_POINTS],
+    moves: &mut [i32; MOST_POINTS],
+    contacts: &mut [i32; MOST_POINTS],
 )
-    requires { ⌜ MoveRanges setup (now newer) (now older) (now contact) pluck
+    requires { ⌜ (now roots ≡ rootTable) × PointRanges setup (now heights) (now stiffness) (now newer) (now older) (now contact) pluck
         × (now weights ≡ placed (Weights.weighted setup (now newer) (now older)))
-        × (length (now gradients) ≡ 127) × Bounded (take (points setup) (now gradients)) 255 × (length (now out) ≡ 127) ⌝ }
-    ensures { λ r. ⌜ (length (now (out .exit)) ≡ 127) × (take (points setup) (now (out .exit))
-        ≡ freeMoves setup (now (newer .entry)) (now (older .entry)) (now (contact .entry)) pluck (take (points setup) (now (gradients .entry)))) ⌝ }
+        × (length (now moves) ≡ 127) × (length (now contacts) ≡ 127) ⌝ }
+    ensures { λ r. ⌜ (length (now (moves .exit)) ≡ 127) × (length (now (contacts .exit)) ≡ 127)
+        × (take (points setup) (now (moves .exit)) ≡ places (points setup) (lastMove setup (now (newer .entry)) (now (older .entry))
+        (keptContacts (now (heights .entry)) (now (newer .entry)) (now (contact .entry))) (gradientsAt (now (stiffness .entry)) (now (heights .entry)) (now (newer .entry))) pluck))
+        × (take (points setup) (now (contacts .exit)) ≡ places (points setup) (lastContact setup (now (newer .entry)) (now (older .entry))
+        (keptContacts (now (heights .entry)) (now (newer .entry)) (now (contact .entry))) (gradientsAt (now (stiffness .entry)) (now (heights .entry)) (now (newer .entry))) pluck)) ⌝ }
 {
     for i in 0..newer.len() {
+        let own = point_contact(roots, heights, stiffness, newer, contact, i);
         let force = force_at(setup, pluck, i + 1);
-        let gradient = gradients[i];
-        let equation = point_equation(setup, weights, newer, older, contact, gradient, force, i);
-        out[i] = point_move(equation);
+        let side = free_side(setup, weights, newer, older, force, i);
+        let point = settle_point(setup, side, own.gradient, own.variable);
+        let delta = point.delta;
+        let variable = point.contact;
+        moves[i] = delta;
+        contacts[i] = variable;
     }
 }

@@ -2,7 +2,7 @@
 use mathlib.Core.Path.{_≡_, refl, sym, _∙_, ap}
 use mathlib.Core.Logic.{inl}
 use mathlib.Core.Bool.{true, false, not}
-use mathlib.Core.List.{List, [], _∷_, map, zipWith}
+use mathlib.Core.List.{List, [], _∷_, zipWith}
 use Prim.Native.Nat.{ℕ, zero, suc}
 use native.Mathlib.Omega.{arith}
 use lib.Dec.{T, ltb, eqb, lit≤, lit<}
@@ -22,15 +22,14 @@ use Rattle.model.specs.Differences.{at, plus, minus, times, D1, dot, E}
 use Rattle.model.specs.Gradient.{gradient, root, greatest}
 use Rattle.model.specs.Rounding.{nearest, floor}
 use Rattle.model.specs.System.{System, rounded₁, rounded₂}
-use Rattle.model.specs.State.{State, Lent, stateOf, put, Neck, Forces}
-use Rattle.model.specs.Step.{gradients, A, c, system, moves, workedStep, nextState, callRules, resultRules, stepRules, frame, step}
-use Rattle.model.specs.Energy.{storedEnergy, dotAll, loss, work, residuals, limits, roundingWork, roundingLimit}
-use Rattle.model.specs.Run.{Voice, voice, call, history, acceptedSteps, voiceAfter, sumOver}
+use Rattle.model.specs.State.{State, Lent, stateOf, put, Neck, Forces, PointsAndFinger}
+use Rattle.model.specs.Step.{WorkedStep, gradients, A, c, system, moves, workedStep, nextState, callRules, resultRules, stepRules, frame, step, clear, cleared, kept, letGo, settled, somePull, dropped, totals, pulls, left}
+use Rattle.model.specs.Energy.{storedEnergy, dotAll, loss, released, work, residuals, limits, roundingWork, roundingLimit}
+use Rattle.model.specs.Run.{Voice, voice, history, acceptedSteps, voiceAfter, sumOver}
 use Rattle.model.specs.Block.{BlockResult, play, blockRules, block}
 use Rattle.model.specs.Bench.{benchSetup, flatNeck, finger, restingFinger, onePoint, forces}
 use Rattle.model.specs.declared.Setup.{Setup}
-use Rattle.promises.specs.Promises.{Refuses, IsNearest, IsRounded, AreGradients, Solves, Run, flips, frameSamples, Plays, followedBy, PlaysNoPart, OddAlone, Shows, shown}
-use Rattle.promises.specs.Symmetry.{NoContact, opposed, Contacts, Mirrored}
+use Rattle.promises.specs.Promises.{Refuses, IsNearest, IsRounded, AreGradients, Clears, Solves, NonePulls, ClearsNothing, Run, flips, frameSamples, Plays, followedBy, PlaysNoPart, OddAlone, Shows, shown}
 
 -- ---- rounding
 
@@ -73,7 +72,8 @@ refused-with-three = (lit≤ tt, (1 when false ∷ 2 when false ∷ [], (4 when 
 
 -- ---- demand 2
 
--- N = 3, the finger at place 2, the pluck at place 1, contact at place 1 and under the finger; the numbers are computed from 01 in exact fractions
+-- N = 3, the finger at place 2, the pluck at place 1, contact at place 1 and under the finger; the variable at place 2 is cleared. The numbers are computed
+-- from 01 and 02 in exact fractions.
 abbrev three : Setup
 three = record {
   segments = 3;
@@ -91,17 +91,24 @@ abbrev threeNeck : Neck
 threeNeck = record { heights = pos 0 ∷ negℤ (pos 50) ∷ []; stiffness = 20000 ∷ 300 ∷ [] }
 
 abbrev x : State
-x = record { newer = negℤ (pos 25) ∷ pos 30 ∷ []; older = negℤ (pos 31) ∷ pos 22 ∷ []; contact = pos 400 ∷ negℤ (pos 70) ∷ []; finger = finger (pos 12) (pos 15) (negℤ (pos 20)) }
+x = record { newer = negℤ (pos 25) ∷ pos 30 ∷ []; older = negℤ (pos 31) ∷ pos 22 ∷ []; contact = pos 20000 ∷ negℤ (pos 70) ∷ []; finger = finger (pos 12) (pos 15) (negℤ (pos 20)) }
+
+abbrev x' : State
+x' = record { newer = x .newer; older = x .older; contact = pos 20000 ∷ pos 0 ∷ []; finger = x .finger }
+
+-- the gradients of the last moves
+abbrev G : PointsAndFinger
+G = record { points = pos 176 ∷ pos 0 ∷ []; finger = pos 17 }
 
 abbrev y : State
-y = record { newer = negℤ (pos 22) ∷ pos 176 ∷ []; older = negℤ (pos 25) ∷ pos 30 ∷ []; contact = negℤ (pos 1184) ∷ negℤ (pos 70) ∷ []; finger = finger (pos 2602) (pos 12) (negℤ (pos 41381)) }
+y = record { newer = pos 175 ∷ negℤ (pos 12) ∷ []; older = negℤ (pos 25) ∷ pos 30 ∷ []; contact = negℤ (pos 16256) ∷ pos 0 ∷ []; finger = finger (negℤ (pos 255)) (pos 12) (pos 3992) }
 
 -- no tie
-apart : {a b : ℤ} {C : Type 0} → a ≡ b → T (not (eqb (natAbs a) (natAbs b))) → C
+pub apart : {a b : ℤ} {C : Type 0} → a ≡ b → T (not (eqb (natAbs a) (natAbs b))) → C
 apart {a} {b} q t = absurd (eqb-no t (ap natAbs q))
 
 -- what holds at places 0, 1, 2 and past them holds at every place
-by-place : (P : ℕ → Type 0) → P 0 → P 1 → P 2 → ((k : ℕ) → P (suc (suc (suc k)))) → (i : ℕ) → P i
+pub by-place : (P : ℕ → Type 0) → P 0 → P 1 → P 2 → ((k : ℕ) → P (suc (suc (suc k)))) → (i : ℕ) → P i
 by-place P a b c d zero = a
 by-place P a b c d (suc zero) = b
 by-place P a b c d (suc (suc zero)) = c
@@ -119,8 +126,22 @@ gradients-are = record {
   finger = record { free = λ h. absurd (h .le); contact = λ h. (17, (refl, record { low = lit≤ tt; high = lit< tt })) };
 }
 
-solved : Solves three x (gradients three threeNeck x) (forces (pos 5000) (pos 2000000)) y
-unfolding gradients gradient root greatest A c system minus zipWith D1
+-- depths 25, −80 and 18
+cleared-is : Clears three threeNeck x x' record { points = pos 0 ∷ negℤ (pos 70) ∷ []; finger = pos 0 }
+cleared-is = record {
+  newer = refl;
+  older = refl;
+  finger-newer = refl;
+  finger-older = refl;
+  length-contact = refl;
+  length-cleared = refl;
+  point = by-place _ (record { free = λ h. (refl, refl); contact = λ h. absurd (h .lt) }) (record { free = λ h. absurd (h .le); contact = λ h. (refl, refl) })
+      (record { free = λ h. (refl, refl); contact = λ h. absurd (h .lt) }) (λ k. record { free = λ h. (refl, refl); contact = λ h. absurd (h .lt) });
+  finger = record { free = λ h. absurd (h .le); contact = λ h. (refl, refl) };
+}
+
+solved : Solves three x' G (forces (pos 5000) (negℤ (pos 200000))) y
+unfolding A c system minus zipWith D1
 solved = record {
   length-newer = refl;
   length-contact = refl;
@@ -129,8 +150,8 @@ solved = record {
   away = by-place _ (λ h l d. absurd (omega arith)) (λ h l d. record { near = leZ-yes tt; tie = λ q. apart q tt }) (λ h l d. absurd (d refl)) (λ k h l d. absurd (omega arith));
   at-finger = record {
     D = pos 3384134;
-    X = pos 521876904;
-    Y = pos 8753658824;
+    X = negℤ (pos 113923096);
+    Y = negℤ (pos 915341176);
     positive = ltZ-yes tt;
     row₁ = refl;
     row₂ = refl;
@@ -141,20 +162,37 @@ solved = record {
   finger-contact = refl;
 }
 
+-- 176 · (20000 − 16256), and 17 · (3992 − 20)
+none-pulls : NonePulls (workedStep three threeNeck x (forces (pos 5000) (negℤ (pos 200000)))) y
+unfolding workedStep clear cleared kept letGo settled somePull dropped totals pulls left gradients gradient root greatest moves A c system rounded₁ rounded₂
+    nearest floor nextState plus minus times zipWith D1
+none-pulls = record { point = by-place _ (leZ-yes tt) (leZ-yes tt) (leZ-yes tt) (λ k. leZ-yes tt); finger = leZ-yes tt }
+
 -- ---- demand 3
+
+unfoldable pub none : Forces
+none = forces (pos 0) (pos 0)
+
+-- a string in a stiff neck, and a finger in it, of gradients 255 and 8; both contacts pull
+unfoldable pub stiffNeck : Neck
+stiffNeck = record { heights = negℤ (pos 4) ∷ []; stiffness = 65535 ∷ [] }
+
+unfoldable pub clinging : Voice
+clinging = voice (benchSetup 4000 0 0 0 64) (onePoint (negℤ (pos 26)) (negℤ (pos 58)) (pos 127) 0 (finger (negℤ (pos 46)) (negℤ (pos 67)) (pos 26)))
 
 abbrev benchVoice : (L M S Z K : ℕ) (w' : ℤ) → Voice
 benchVoice L M S Z K w' = record { setup = benchSetup L M S Z K; lent = onePoint (pos 0) (pos 0) (pos 0) 0 (finger (pos 0) w' (pos 0)) }
 
-none : Forces
-none = forces (pos 0) (pos 0)
-
-equal : {B : Type 0} {a b : B} (n : B) → a ≡ n → b ≡ n → a ≡ b
+pub equal : {B : Type 0} {a b : B} (n : B) → a ≡ n → b ≡ n → a ≡ b
 equal n p q = p ∙ sym q
 
--- a force that is not 0
+-- a force or a loss that is not 0
 forced : {f : ℤ} {C : Type 0} → f ≡ pos 0 → T (ltb 0 (natAbs f)) → C
 forced {f} q t = absurd (rw q at t)
+
+-- of one point
+nothing : {t : WorkedStep} → t .cleared ≡ record { points = pos 0 ∷ []; finger = pos 0 } → ClearsNothing t
+nothing q = rw q record { point = by-place _ refl refl refl (λ k. refl); finger = refl }
 
 runs :
     -- at rest the energy is 0
@@ -167,18 +205,24 @@ runs :
     × Run (flatNeck 0) (benchVoice 1 0 0 0 65535 (pos 8)) (none ∷ none ∷ none ∷ [])
     -- lossless and unforced, and a tie: the stored energy rises from 37,748,736 by 8192, which is its bound
     × Run (flatNeck 0) (voice (benchSetup 1 0 0 0 0) (onePoint (negℤ (pos 3072)) (negℤ (pos 3072)) (pos 0) 0 restingFinger)) (none ∷ [])
-unfolding none history voiceAfter acceptedSteps sumOver stateOf put storedEnergy loss work residuals limits roundingWork roundingLimit dotAll step
-    stepRules callRules resultRules setupRules placeOk lengthOk between inside heightOk displacementOk contactOk forceOk workedStep gradients gradient
-    root greatest moves A c system rounded₁ rounded₂ nearest floor nextState frame plus minus times zipWith D1 dot E sum
+    -- ψ = 5 is cleared at depth 0: the loss is 50
+    × Run (flatNeck 0) (voice (benchSetup 1 0 0 0 0) (onePoint (pos 0) (pos 0) (pos 5) 0 restingFinger)) (none ∷ [])
+    -- both contacts pull, and are dropped: the residuals are read without them
+    × Run stiffNeck clinging (none ∷ [])
+unfolding none stiffNeck clinging history voiceAfter acceptedSteps sumOver stateOf put storedEnergy loss released work residuals limits roundingWork roundingLimit
+    dotAll step stepRules callRules resultRules setupRules placeOk lengthOk between inside heightOk displacementOk contactOk forceOk workedStep
+    clear cleared kept letGo settled somePull dropped totals pulls left gradients gradient root greatest moves A c system rounded₁ rounded₂ nearest
+    floor nextState frame plus minus times zipWith D1 dot E sum
 runs = (
-  record { never-negative = leZ-yes tt; exact = refl; limited = tt; bounded = leZ-yes tt; conserved = λ l u. leZ-yes tt },
-  record { never-negative = leZ-yes tt; exact = equal (pos 32768) refl refl; limited = (record { points = (leZ-yes tt, tt); finger = leZ-yes tt }, tt); bounded = leZ-yes tt; conserved = λ l u. forced (u .0 .pluck) tt },
+  record { never-negative = leZ-yes tt; exact = refl; limited = tt; bounded = leZ-yes tt; conserved = λ l u. leZ-yes tt; lossless = λ l. tt },
+  record { never-negative = leZ-yes tt; exact = equal (pos 32768) refl refl; limited = (record { points = (leZ-yes tt, tt); finger = leZ-yes tt }, tt); bounded = leZ-yes tt; conserved = λ l u. forced (u .0 .pluck) tt; lossless = λ l. (nothing refl, tt) },
   record {
     never-negative = leZ-yes tt;
     exact = equal (pos 67073020) refl refl;
     limited = (record { points = (leZ-yes tt, tt); finger = leZ-yes tt }, (record { points = (leZ-yes tt, tt); finger = leZ-yes tt }, tt));
     bounded = leZ-yes tt;
     conserved = λ l u. forced (u .0 .pluck) tt;
+    lossless = λ l. (nothing refl, (nothing refl, tt));
   },
   record {
     never-negative = leZ-yes tt;
@@ -186,8 +230,11 @@ runs = (
     limited = (record { points = (leZ-yes tt, tt); finger = leZ-yes tt }, (record { points = (leZ-yes tt, tt); finger = leZ-yes tt }, (record { points = (leZ-yes tt, tt); finger = leZ-yes tt }, tt)));
     bounded = leZ-yes tt;
     conserved = λ l u. leZ-yes tt;
+    lossless = λ l. (nothing refl, (nothing refl, (nothing refl, tt)));
   },
-  record { never-negative = leZ-yes tt; exact = equal (pos 37756928) refl refl; limited = (record { points = (leZ-yes tt, tt); finger = leZ-yes tt }, tt); bounded = leZ-yes tt; conserved = λ l u. leZ-yes tt },
+  record { never-negative = leZ-yes tt; exact = equal (pos 37756928) refl refl; limited = (record { points = (leZ-yes tt, tt); finger = leZ-yes tt }, tt); bounded = leZ-yes tt; conserved = λ l u. leZ-yes tt; lossless = λ l. (nothing refl, tt) },
+  record { never-negative = leZ-yes tt; exact = equal (pos 0) refl refl; limited = (record { points = (leZ-yes tt, tt); finger = leZ-yes tt }, tt); bounded = leZ-yes tt; conserved = λ l u. forced l tt; lossless = λ l. forced l tt },
+  record { never-negative = leZ-yes tt; exact = equal (pos 36368970) refl refl; limited = (record { points = (leZ-yes tt, tt); finger = leZ-yes tt }, tt); bounded = leZ-yes tt; conserved = λ l u. leZ-yes tt; lossless = λ l. (nothing refl, tt) },
 )
 
 -- ---- a block and a reading
@@ -198,7 +245,7 @@ lent = record { first = x .newer; second = x .older; contact = x .contact; turn 
 
 -- the step above, then one with a force out of range
 abbrev two : List Forces
-two = forces (pos 5000) (pos 2000000) ∷ forces (pos 2000000000) (pos 0) ∷ []
+two = forces (pos 5000) (negℤ (pos 200000)) ∷ forces (pos 2000000000) (pos 0) ∷ []
 
 -- what a block of them comes to
 abbrev made : BlockResult
@@ -206,23 +253,23 @@ made = record {
   count = 1;
   refusal = 12;
   lent = record { first = x .newer; second = y .newer; contact = y .contact; turn = 1; finger = y .finger };
-  samples = fin true 11 (negsuc 18) ∷ fin false 11 (negsuc 15) ∷ replicate 2 nan;
+  samples = fin false 175 (negsuc 19) ∷ fin true 3 (negsuc 17) ∷ replicate 2 nan;
 }
 
 played : Plays threeNeck (voice three lent) two (replicate 4 nan) made
 unfolding history voiceAfter acceptedSteps flips frameSamples stateOf put step stepRules callRules resultRules setupRules placeOk lengthOk between
-    inside heightOk displacementOk contactOk forceOk workedStep gradients gradient root greatest moves A c system rounded₁ rounded₂ nearest floor
-    nextState frame fraction round plus minus times zipWith D1
-played = record { calls = history threeNeck (voice three lent) (forces (pos 5000) (pos 2000000) ∷ []); run = refl; count = refl; turn = refl; lent = refl; samples = refl; stops = (refl, inl refl) }
+    inside heightOk displacementOk contactOk forceOk workedStep clear cleared kept letGo settled somePull dropped totals pulls left gradients
+    gradient root greatest moves A c system rounded₁ rounded₂ nearest floor nextState frame fraction round plus minus times zipWith D1
+played = record { calls = history threeNeck (voice three lent) (forces (pos 5000) (negℤ (pos 200000)) ∷ []); run = refl; count = refl; turn = refl; lent = refl; samples = refl; stops = (refl, inl refl) }
 
 -- the same block in a sample buffer that is longer by an odd number
 abbrev rest : List Float
 rest = fin false 7 (pos 0) ∷ fin true 7 (pos 0) ∷ nan ∷ []
 
-surplus : PlaysNoPart three threeNeck lent (pos 5000 ∷ pos 2000000 ∷ pos 2000000000 ∷ pos 0 ∷ []) (replicate 4 nan) rest
+surplus : PlaysNoPart three threeNeck lent (pos 5000 ∷ negℤ (pos 200000) ∷ pos 2000000000 ∷ pos 0 ∷ []) (replicate 4 nan) rest
 unfolding block blockRules play stateOf put step stepRules callRules resultRules setupRules placeOk lengthOk between inside heightOk displacementOk
-    contactOk forceOk workedStep gradients gradient root greatest moves A c system rounded₁ rounded₂ nearest floor nextState frame fraction round plus
-    minus times zipWith D1
+    contactOk forceOk workedStep clear cleared kept letGo settled somePull dropped totals pulls left gradients gradient root greatest moves A c system
+    rounded₁ rounded₂ nearest floor nextState frame fraction round plus minus times zipWith D1
 surplus = equal (followedBy rest made) refl refl
 
 -- three samples for three forces, and four for four
@@ -237,44 +284,3 @@ pressed = ((refl, refl), ((refl, refl), tt))
 free : Shows (shown (pos 30) (negℤ (pos 80))) (readingResult (reading three (threeNeck .heights) (lent .first) (lent .second) 0 2))
 unfolding reading readingRules setupRules placeOk lengthOk between inside heightOk displacementOk fraction round
 free = ((refl, refl), tt)
-
--- ---- two runs, one the negative of the other
-
--- with losses; strings, heights and turn are all other than 0, and the contact variables are not negated
-moving : Voice
-moving = voice (benchSetup 1024 100 200 512 64) (onePoint (pos 3) (pos 5) (pos 7) 4 (finger (pos 2) (pos 1) (negℤ (pos 9))))
-
-mirror : Voice
-mirror = voice (benchSetup 1024 100 200 512 64) (onePoint (negℤ (pos 3)) (negℤ (pos 5)) (pos 8) 4 (finger (negℤ (pos 2)) (negℤ (pos 1)) (pos 0)))
-
-lowNeck : Neck
-lowNeck = record { heights = negℤ (pos 100) ∷ []; stiffness = 30000 ∷ [] }
-
--- a step that is refused, and then ties of string and finger, 5/2 and 9/2
-mirrored : let Fs = forces (pos 2000000000) (pos 0) ∷ forces (pos 8176) (pos 10240) ∷ [] in Mirrored (history lowNeck moving Fs) (history lowNeck mirror (map opposed Fs))
-unfolding moving mirror lowNeck history stateOf put step stepRules callRules resultRules setupRules placeOk lengthOk between inside heightOk
-    displacementOk contactOk forceOk workedStep gradients gradient root greatest moves A c system rounded₁ rounded₂ nearest floor nextState plus
-    minus times zipWith D1
-mirrored = (
-  equal 12 refl refl,
-  record { first = equal (negℤ (pos 3) ∷ []) refl refl; second = equal (negℤ (pos 5) ∷ []) refl refl; turn = equal 4 refl refl; height = equal (negℤ (pos 2)) refl refl; older-height = equal (negℤ (pos 1)) refl refl },
-  (
-    tt,
-    record { first = equal (negℤ (pos 5) ∷ []) refl refl; second = equal (negℤ (pos 5) ∷ []) refl refl; turn = equal 0 refl refl; height = equal (negℤ (pos 5)) refl refl; older-height = equal (negℤ (pos 2)) refl refl },
-    tt,
-  ),
-)
-
--- stiffness 64 at the depth 16 has the least gradient above zero, 8: the string on the neck, and the finger on the string
-touching : NoContact (flatNeck 64) (call (flatNeck 64) (voice (benchSetup 1 0 0 0 0) (onePoint (negℤ (pos 16)) (pos 0) (pos 0) 0 restingFinger)) none) → ⊥
-unfolding gradients gradient root greatest stateOf minus zipWith
-touching h = h .points .0 .le
-
-pressed-by-the-finger : NoContact (flatNeck 0) (call (flatNeck 0) (voice (benchSetup 1 0 0 0 64) (onePoint (pos 16) (pos 0) (pos 0) 0 restingFinger)) none) → ⊥
-unfolding gradients gradient root greatest stateOf minus zipWith
-pressed-by-the-finger h = h .finger .le
-
--- a contact variable out of range, of either voice
-out-of-range : let v = onePoint (pos 0) (pos 0) (pos 0) 0 restingFinger in let beyond = onePoint (pos 0) (pos 0) (pos 67108865) 0 restingFinger in (Contacts v beyond → ⊥) × (Contacts beyond v → ⊥)
-unfolding contactOk inside
-out-of-range = (λ h. h .other, λ h. h .one)

@@ -2,3 +2,5 @@
 pub mod Promises
 pub mod Symmetry
 mod Instances
+mod PullingInstances
+mod SymmetryInstances

@@ -5,7 +5,7 @@ use mathlib.Core.Logic.{_≢_, _⊎_}
 use mathlib.Core.List.{List, [], _∷_, _++_}
 use Prim.Native.Nat.{ℕ, zero, suc, _*_, _/_, _%_, min, _≤_, _<_}
 use lib.Dec.{T, eqb}
-use lib.IntN.{ℤ, pos, natAbs, _+ℤ_, _-ℤ_, _*ℤ_}
+use lib.IntN.{ℤ, pos, negℤ, natAbs, _+ℤ_, _-ℤ_, _*ℤ_}
 use lib.Signed.{_≤ℤ_, _<ℤ_, ltZ}
 use lib.Ieee.{Float}
 use lib.ListN.{length, take, drop, getD}
@@ -18,7 +18,7 @@ use Rattle.model.specs.System.{System}
 use Rattle.model.specs.State.{State, Lent, byTurn, newest, stateOf, Neck, Forces, PointsAndFinger}
 use Rattle.model.specs.Neck.{Plan, fretAt, neckRules, laidResult, lay}
 use Rattle.model.specs.Start.{startRules, fresh, startedResult, start}
-use Rattle.model.specs.Step.{A, c, system, gradients, WorkedStep, stepRules, step}
+use Rattle.model.specs.Step.{A, c, system, gradients, WorkedStep, workedStep, nextState, callRules, stepRules, step}
 use Rattle.model.specs.Energy.{loss, work, residuals, limits, roundingWork, roundingLimit}
 use Rattle.model.specs.Run.{Voice, voice, energyOf, Call, history, acceptedSteps, voiceAfter, sumOver}
 use Rattle.model.specs.Fraction.{Holds}
@@ -120,9 +120,27 @@ pub record AreGradients (s : Setup) (neck : Neck) (x : State) (G : PointsAndFing
   pub point : (k : ℕ) → k < points s → IsGradient (getD (neck .stiffness) k 0) (at (neck .heights) (suc k) -ℤ at (x .newer) (suc k)) (at (G .points) (suc k))
   pub finger : IsGradient (K s) (at (x .newer) (p s) -ℤ x .finger .newer) (G .finger)
 
+-- ---- what is cleared before a step
+
+-- of the contact variable ψ at the depth d the step starts from y, and r is let go
+pub record ClearedAt (d ψ y r : ℤ) : Type 0 where
+  pub free : d ≤ℤ pos 0 → (y ≡ pos 0) × (r ≡ ψ)
+  pub contact : pos 0 <ℤ d → (y ≡ ψ) × (r ≡ pos 0)
+
+-- a step from x on the neck starts from y, and the contact variables r are let go
+pub record Clears (s : Setup) (neck : Neck) (x y : State) (r : PointsAndFinger) : Type 0 where
+  pub newer : y .newer ≡ x .newer
+  pub older : y .older ≡ x .older
+  pub finger-newer : y .finger .newer ≡ x .finger .newer
+  pub finger-older : y .finger .older ≡ x .finger .older
+  pub length-contact : length (y .contact) ≡ points s
+  pub length-cleared : length (r .points) ≡ points s
+  pub point : (i : ℕ) → ClearedAt (at (neck .heights) i -ℤ at (x .newer) i) (at (x .contact) i) (at (y .contact) i) (at (r .points) i)
+  pub finger : ClearedAt (at (x .newer) (p s) -ℤ x .finger .newer) (x .finger .contact) (y .finger .contact) (r .finger)
+
 -- ---- demand 2: an accepted step solves the equations
 
--- the step from x to y: G the gradients of x, F the forces; the moves δ and δw are read off the two states
+-- the step from x to y: x after clearing, G the gradients of the moves, F the forces; the moves δ and δw are read off the two states
 pub record Solves (s : Setup) (x : State) (G : PointsAndFinger) (F : Forces) (y : State) : Type 0 where
   pub length-newer : length (y .newer) ≡ points s
   pub length-contact : length (y .contact) ≡ points s
@@ -137,18 +155,76 @@ pub record Solves (s : Setup) (x : State) (G : PointsAndFinger) (F : Forces) (y 
   pub finger-contact : y .finger .contact
       ≡ x .finger .contact +ℤ G .finger *ℤ ((at (y .newer) (p s) -ℤ at (x .older) (p s)) -ℤ (y .finger .newer -ℤ x .finger .older))
 
--- what is claimed of an accepted step from the lent buffers v to v'
-pub record AcceptedStep (s : Setup) (neck : Neck) (v : Lent) (F : Forces) (v' : Lent) : Type 0 where
+-- of a contact of gradient g whose old and new variable sum to q: h is its gradient after the drop
+pub record Left (g q h : ℤ) : Type 0 where
+  pub pulls : pos 0 <ℤ g → q <ℤ pos 0 → h ≡ pos 0
+  pub idle : g ≤ℤ pos 0 → h ≡ g
+  pub pushes : pos 0 ≤ℤ q → h ≡ g
+
+-- the moves from x worked out with the gradients G; H are the gradients after the drop, of all contacts together
+pub record Drops (s : Setup) (x : State) (F : Forces) (G H : PointsAndFinger) : Type 0 where
+  pub next : State
+  pub solves : Solves s x G F next
+  pub length-points : length (H .points) ≡ points s
+  pub point : (i : ℕ) → Left (at (G .points) i) (at (x .contact) i +ℤ at (next .contact) i) (at (H .points) i)
+  pub finger : Left (G .finger) (x .finger .contact +ℤ next .finger .contact) (H .finger)
+
+-- the moves worked out with G, then with each of Hs in turn, until a drop changes nothing; `last` are the gradients of the last moves
+abbrev pub Workings : Setup → State → Forces → PointsAndFinger → List PointsAndFinger → PointsAndFinger → Type 0
+Workings s x F G [] last = Drops s x F G G × (last ≡ G)
+Workings s x F G (H ∷ Hs) last = Drops s x F G H × (G ≢ H) × Workings s x F H Hs last
+
+-- a contact, read from gradients by g and from a state by ψ, pulled in some working
+pub record Pulled (s : Setup) (x : State) (F : Forces) (g : PointsAndFinger → ℤ) (ψ : State → ℤ) : Type 0 where
+  pub gradients : PointsAndFinger
+  pub next : State
+  pub solves : Solves s x gradients F next
+  pub above : pos 0 <ℤ g gradients
+  pub below : (ψ x +ℤ ψ next) <ℤ pos 0
+
+-- its last gradient is that of the state, or it pulled in some working and its last gradient is 0
+abbrev pub KeptOrPulled : Setup → State → Forces → (PointsAndFinger → ℤ) → (State → ℤ) → (G last : PointsAndFinger) → Type 0
+KeptOrPulled s x F g ψ G last = (g last ≡ g G) ⊎ (Pulled s x F g ψ × (g last ≡ pos 0))
+
+-- what is claimed of an accepted step from the lent buffers v to v', worked out as t
+pub record AcceptedStep (s : Setup) (neck : Neck) (v : Lent) (F : Forces) (t : WorkedStep) (v' : Lent) : Type 0 where
+  pub clears : Clears s neck (stateOf v) (t .before) (t .cleared)
   pub gradient : AreGradients s neck (stateOf v) (gradients s neck (stateOf v))
-  -- the state after it solves the equations, and no other state does
-  pub solves : Solves s (stateOf v) (gradients s neck (stateOf v)) F (stateOf v')
-  pub unique : (y : State) → Solves s (stateOf v) (gradients s neck (stateOf v)) F y → y ≡ stateOf v'
+  -- the gradients of the last moves are reached in one to three workings
+  pub dropped : List PointsAndFinger
+  pub workings : Workings s (t .before) F (gradients s neck (stateOf v)) dropped (t .gradients)
+  pub three : length dropped ≤ 2
+  pub point : (i : ℕ) → KeptOrPulled s (t .before) F (λ G. at (G .points) i) (λ x. at (x .contact) i) (gradients s neck (stateOf v)) (t .gradients)
+  pub finger : KeptOrPulled s (t .before) F (λ G. G .finger) (λ x. x .finger .contact) (gradients s neck (stateOf v)) (t .gradients)
+  -- the state after it solves the equations with them, and no other state does
+  pub solves : Solves s (t .before) (t .gradients) F (stateOf v')
+  pub unique : (y : State) → Solves s (t .before) (t .gradients) F y → y ≡ stateOf v'
   -- the new string lies over the older buffer, and the newer buffer is untouched: the turn is flipped to 1 or 0
   pub flipped : v' .turn ≡ byTurn (v .turn) 1 0
   pub untouched : newest (v .turn) (v' .first) (v' .second) ≡ newest (v .turn) (v .first) (v .second)
 
 abbrev pub Demand2 : Type 0
-Demand2 = (s : Setup) (neck : Neck) (v : Lent) (F : Forces) (f : Frame) → step s neck v F .answer ≡ accepted f → AcceptedStep s neck v F (step s neck v F .lent)
+Demand2 = (s : Setup) (neck : Neck) (v : Lent) (F : Forces) (f : Frame) → step s neck v F .answer ≡ accepted f
+    → AcceptedStep s neck v F (workedStep s neck (stateOf v) F) (step s neck v F .lent)
+
+-- ---- no contact pulls
+
+-- in the step t, which leads to y: the gradient of the last moves times the sum of old and new variable, old meaning after clearing
+pub record NonePulls (t : WorkedStep) (y : State) : Type 0 where
+  pub point : (i : ℕ) → pos 0 ≤ℤ (at (t .gradients .points) i *ℤ (at (t .before .contact) i +ℤ at (y .contact) i))
+  pub finger : pos 0 ≤ℤ (t .gradients .finger *ℤ (t .before .finger .contact +ℤ y .finger .contact))
+
+abbrev pub NoContactPulls : Type 0
+NoContactPulls = (s : Setup) (neck : Neck) (v : Lent) (F : Forces) (f : Frame) → step s neck v F .answer ≡ accepted f
+    → NonePulls (workedStep s neck (stateOf v) F) (stateOf (step s neck v F .lent))
+
+-- so 14 is given only above its range: whatever passes 1 to 12, no new contact variable is below −67,108,864
+pub record NotBelow (y : State) : Type 0 where
+  pub point : (i : ℕ) → negℤ (pos 67108864) ≤ℤ at (y .contact) i
+  pub finger : negℤ (pos 67108864) ≤ℤ y .finger .contact
+
+abbrev pub OnlyAbove : Type 0
+OnlyAbove = (s : Setup) (neck : Neck) (x : State) (F : Forces) → Passed (callRules s neck x F) → NotBelow (nextState (workedStep s neck x F))
 
 -- ---- demand 3: the energy of a run
 
@@ -174,6 +250,11 @@ pub record Unforced (t : WorkedStep) : Type 0 where
   pub pluck : t .forces .pluck ≡ pos 0
   pub finger : t .forces .finger ≡ pos 0
 
+-- no variable other than 0 is cleared before a step
+pub record ClearsNothing (t : WorkedStep) : Type 0 where
+  pub point : (i : ℕ) → at (t .cleared .points) i ≡ pos 0
+  pub finger : t .cleared .finger ≡ pos 0
+
 -- what is claimed of a run from the voice `start` to the voice `last`, whose accepted steps are `steps`
 pub record Claims (start last : Voice) (steps : List WorkedStep) : Type 0 where
   -- the stored energy is never negative
@@ -186,6 +267,8 @@ pub record Claims (start last : Voice) (steps : List WorkedStep) : Type 0 where
   pub bounded : size (sumOver roundingWork steps) ≤ℤ sumOver roundingLimit steps
   -- after a lossless unforced run the energy differs from the start by at most that sum
   pub conserved : sumOver loss steps ≡ pos 0 → Every Unforced steps → size (energyOf last -ℤ energyOf start) ≤ℤ sumOver roundingLimit steps
+  -- a run that clears a variable other than 0 is not lossless
+  pub lossless : sumOver loss steps ≡ pos 0 → Every ClearsNothing steps
 
 -- the claims for a list of steps from the voice v on a neck
 abbrev pub Run : Neck → Voice → List Forces → Type 0

@@ -7,17 +7,21 @@ use lib.Signed.{_≤ℤ_}
 use lib.ListN.{length}
 use Rattle.model.specs.Ranges.{all, contactOk}
 use Rattle.model.specs.Refusal.{Answer, accepted, refused}
-use Rattle.model.specs.State.{Lent, stateOf, Neck, Forces}
-use Rattle.model.specs.Step.{gradients}
+use Rattle.model.specs.State.{Lent, stateOf, Neck, Forces, PointsAndFinger}
+use Rattle.model.specs.Step.{workedStep}
 use Rattle.model.specs.Run.{voice, Call, history}
 use Rattle.model.specs.declared.Setup.{Setup}
 use Rattle.model.specs.declared.Frame.{Frame}
 use Rattle.promises.specs.Promises.{Every}
 
--- no gradient of a call is above zero
+-- the gradients of the last moves of a call
+abbrev pub lastGradients : Neck → Call → PointsAndFinger
+lastGradients neck k = workedStep (k .before .setup) neck (stateOf (k .before .lent)) (k .forces) .gradients
+
+-- none of them is above zero
 pub record NoContact (neck : Neck) (k : Call) : Type 0 where
-  pub points : Every (λ G. G ≤ℤ pos 0) (gradients (k .before .setup) neck (stateOf (k .before .lent)) .points)
-  pub finger : gradients (k .before .setup) neck (stateOf (k .before .lent)) .finger ≤ℤ pos 0
+  pub points : Every (λ G. G ≤ℤ pos 0) (lastGradients neck k .points)
+  pub finger : lastGradients neck k .finger ≤ℤ pos 0
 
 -- the turn of the mirror is that of the voice, and every displacement and finger height is the negative; contact variables are not compared
 pub record Opposite (v mirror : Lent) : Type 0 where
@@ -58,5 +62,5 @@ Symmetry =
     (v mirror : Lent) → Opposite v mirror → Contacts v mirror
     -- and every list of steps, refused ones included, with the forces negated in one,
     → (Fs : List Forces) → let ks = history neck (voice s v) Fs in let js = history neck (voice s mirror) (map opposed Fs) in
-    -- where no gradient is above zero in either run
+    -- where no gradient of the last moves is above zero in either run
     Every (NoContact neck) ks → Every (NoContact neck) js → Mirrored ks js

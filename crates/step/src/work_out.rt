@@ -5,17 +5,15 @@ ghost use Rattle.model.specs.Setup.{points};
 ghost use Rattle.model.specs.Step.{callRules, workedStep, nextState};
 ghost use Rattle.promises.specs.Promises.{Passed};
 ghost use Rattle.contact.specs.Table.{rootTable};
-use contact::gradients::finger_gradient;
-use contact::gradients::point_gradients;
 use model::Finger;
 use model::Setup;
 use model::bounds::MOST_POINTS;
 use model::bounds::ROOT_ENTRIES;
-use motion::moves::moves;
-use motion::next::next_contact;
+use motion::finger_point::settle_finger;
 use motion::next::next_string;
 use motion::next_finger::NewFinger;
-use motion::next_finger::new_finger;
+use motion::points::settle_points;
+use motion::weighted::weighted;
 
 // The new string and the new contact variables, at the front of `string` and `contacts`, and the new finger.
 pub fn work_out(
@@ -47,25 +45,42 @@ pub fn work_out(
         (record { newer = now (newer .entry); older = now (older .entry); contact = now (contact .entry); finger = finger })
         (record { pluck = pluck; finger = force }))) ⌝ }
 {
-    let mut gradients = [0i64; MOST_POINTS];
-    point_gradients(roots, heights, stiffness, newer, &mut gradients);
-    let gradient = finger_gradient(roots, setup, newer, finger);
-    let mut deltas = [0i32; MOST_POINTS];
-    let finger_delta = moves(
+    let weights = weighted(setup, newer, older);
+    let mut moves = [0i32; MOST_POINTS];
+    settle_points(
         setup,
+        roots,
+        heights,
+        stiffness,
+        &weights,
         newer,
         older,
         contact,
-        &gradients,
+        pluck,
+        &mut moves,
+        contacts,
+    );
+    let pair = settle_finger(
+        setup,
+        roots,
+        heights,
+        stiffness,
+        &weights,
+        newer,
+        older,
+        contact,
         finger,
-        gradient,
         pluck,
         force,
-        &mut deltas,
     );
-    next_string(older, &deltas, string);
-    next_contact(contact, &gradients, &deltas, contacts);
     let place = setup.finger.place as usize;
-    let delta = deltas[place - 1];
-    new_finger(finger, gradient, delta as i64, finger_delta)
+    let delta = pair.delta;
+    let variable = pair.contact;
+    moves[place - 1] = delta;
+    contacts[place - 1] = variable;
+    next_string(older, &moves, string);
+    NewFinger {
+        height: pair.height,
+        contact: pair.finger_contact,
+    }
 }

@@ -2,14 +2,14 @@
 use mathlib.Core.List.{[], _∷_}
 use mir.Syntax.{w32, w64}
 use Rattle.integers.specs.Machine.{Code, var, ♯_, _⊞_, _⊠_, cast, Within, result, answer}
-use Rattle.motion.specs.Weighted.{sideSizes}
+use Rattle.motion.specs.MoveRanges.{pointSizes}
 use Rattle.motion.proofs.equation.point_side.Statement.{statement}
 use Rattle.motion.proofs.equation.point_side.Tie as tie
 
 abbrev body : Code
-body = ♯ 8192 ⊠ var 1 ⊞ var 0 ⊞ ♯ 2 ⊠ var 2 ⊠ cast w32 (var 3) ⊞ cast w32 (var 4)
+body = var 0 ⊞ ♯ 2 ⊠ var 1 ⊠ cast w32 (var 2)
 
-ρ : (c : tie.Start) → (let a = c .args in Within (a .terms ∷ a .change ∷ a .gradient ∷ a .contact ∷ a .force ∷ []) sideSizes)
+ρ : (c : tie.Start) → (let a = c .args in Within (a .side ∷ a .gradient ∷ a .contact ∷ []) pointSizes)
 ρ c = c .pre
 
 returns : tie.Need-returns

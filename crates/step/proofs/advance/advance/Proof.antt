@@ -11,7 +11,7 @@ use Rattle.model.specs.Ranges.{all, forceOk}
 use Rattle.model.specs.Refusal.{Rule, firstOf}
 use Rattle.model.specs.Setup.{points, setupRules}
 use Rattle.model.specs.State.{State}
-use Rattle.model.specs.Step.{callRules, workedStep, nextState, buffersRule, stateRule, forcesRule}
+use Rattle.model.specs.Step.{clear, callRules, workedStep, nextState, buffersRule, stateRule, forcesRule}
 use Rattle.model.specs.Neck.{heightsRule}
 use Rattle.model.specs.declared.StepAnswer.the-variants.{Refused}
 use Rattle.promises.specs.Promises.{Passed}
@@ -110,7 +110,7 @@ outcome-requires c κs =
     (ready (k w) .setup, w .work-out .ensures .0, w .work-out .ensures .1, h .older .long, h .contact .long)
 
 returns-2 : tie.Need-returns-2
-unfolding nextState workedStep
+unfolding nextState workedStep clear
 returns-2 c =
     let told = c .before .before .before in
     let w = told .before .before .before .before .before in

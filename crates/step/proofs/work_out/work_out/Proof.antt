@@ -1,29 +1,31 @@
--- `work_out` meets its contract: gradients, moves and next state, part by part as the model has them.
+-- `work_out` meets its contract: the points as if there were no finger, then what the finger and its point come to put in at p.
 use mathlib.Core.Path.{_≡_, refl, sym, _∙_, ap, ap₂, subst}
+use mathlib.Core.Bool.{Bool, true, false, cond}
 use mathlib.Core.List.{List}
-use Prim.Native.Nat.{ℕ, _-_, _^_, _≤_}
+use Prim.Native.Nat.{ℕ, suc, _-_, _<_, _≤_, zero-le}
 use native.Mathlib.Omega.{arith}
-use borrow.Author.Needs.{needs}
-use lib.Dec.{T}
-use lib.IntN.{ℤ, pos, _+ℤ_, _-ℤ_, _*ℤ_}
-use lib.ListN.{getD, take}
+use borrow.Author.Needs.{needs, sfits-of}
+use lib.Dec.{T, eqb}
+use lib.IntN.{ℤ, pos}
+use lib.ListN.{length, set, take, length-set}
 use mir.Syntax.{w32, w64}
-use mir.Val.{SFits, toZ, ofZ}
+use mir.Val.{toZ, ofZ}
 use mir.Facts.{toZ-ofZ}
-use Rattle.model.specs.Ranges.{forceOk}
+use Rattle.integers.specs.Filled.{tabulate, tabulate-set}
+use Rattle.integers.specs.Size as Size
+use Rattle.integers.specs.Size.{_within_, natural}
+use Rattle.model.specs.Ranges.{displacementOk, forceOk}
 use Rattle.model.specs.Setup.{p, points}
-use Rattle.model.specs.Differences.{at, plus, minus, times}
+use Rattle.model.specs.Differences.{places, plus}
 use Rattle.model.specs.State.{State, PointsAndFinger}
-use Rattle.model.specs.Step as Steps
-use Rattle.model.specs.Step.{gradients, workedStep, nextState}
-use Rattle.integers.specs.Bits.{wide-fits, wide-is}
-use Rattle.integers.specs.Size.{_within_, fits}
-use Rattle.laws.specs.Accepted.{Examined}
-use Rattle.laws.specs.Sizes.{Bounded, StepRanges}
-use Rattle.laws.specs.MoveSizes.{moveSize, changeSize, moves-small, changes-small, rounded₂-size}
-use Rattle.motion.specs.Front.{front-at}
-use Rattle.motion.specs.InRange.{finger-place, finger-point}
-use Rattle.motion.specs.MoveRanges.{MoveRanges}
+use Rattle.model.specs.Step.{clear, gradients}
+use Rattle.laws.specs.LastMoves.{lastMove, lastContact, moveAt, contactAt, moveAtFinger, contactAtFinger, nextLast, next-outright}
+use Rattle.laws.specs.MoveSizes.{moveSize}
+use Rattle.laws.specs.Sizes.{Bounded, bounded}
+use Rattle.laws.specs.Strings.{places-each}
+use Rattle.motion.specs.FingerPoint.{atFinger, StepRanges, at-finger-size, away-size}
+use Rattle.motion.specs.InRange.{facts, most-points, finger-place, finger-point}
+use Rattle.motion.specs.MoveRanges.{PointRanges}
 use Rattle.motion.specs.Weighted.{StringRanges}
 use Rattle.step.specs.Given.{Given, givenBy, stateWith, forces-read}
 use Rattle.step.proofs.work_out.Called.{Called, called}
@@ -37,196 +39,144 @@ module _ (k : tie.Start) where
   known : Called (given .s) (given .neck) (given .x) (given .F)
   known = called (given .s) (given .neck) (given .x) (given .F) (k .pre .1)
 
+  strings : StringRanges (given .s) (given .x .newer) (given .x .older)
+  strings = known .ranges .points .strings
+
+  in-array : p (given .s) - 1 < 127
+  in-array = let h = finger-point strings in let m = most-points strings in omega arith
+
+  -- the state after clearing, and its gradients
+  abbrev y : State
+  y = clear (given .s) (given .neck) (given .x)
+
   abbrev G : PointsAndFinger
   G = gradients (given .s) (given .neck) (given .x)
 
-  abbrev δ : PointsAndFinger
-  δ = Steps.moves (given .s) (given .x) G (given .F)
+  pluck-ranges : PointRanges (given .s) (given .neck .heights) (given .neck .stiffness) (given .x .newer) (given .x .older) (given .x .contact) (toZ w32 (ofZ w32 (given .F .pluck)))
+  pluck-ranges = subst (PointRanges (given .s) (given .neck .heights) (given .neck .stiffness) (given .x .newer) (given .x .older) (given .x .contact)) (sym (toZ-ofZ (k .fits .pluck))) (known .ranges .points)
 
-  short : (n : ℕ) → n ≡ points (given .s) → n ≤ 127
-  short n e = let l = known .lengths .setup .segments in rw e (omega arith)
+settle-points-requires : tie.Need-settle-points-requires
+settle-points-requires c κs = let k = c .before .before .before .before .before in (k .pre .0, pluck-ranges k, c .before .before .before .weighted .ensures, refl, k .pre .3)
 
-point-gradients-requires : tie.Need-point-gradients-requires
-point-gradients-requires c κs =
-    let k = c .before .before in
-    let h = known k in
-    let n = h .lengths .newer .long in
-    (k .pre .0, h .lengths .heights .long ∙ sym n, h .lengths .stiffness ∙ sym n, short k _ n, refl, h .heights, h .range .newer)
+settle-finger-requires : tie.Need-settle-finger-requires
+settle-finger-requires c κs =
+    let k = c .before .before .before .before .before .before .before in
+    (k .pre .0, pluck-ranges k, c .before .before .before .before .before .weighted .ensures, known k .ranges .finger, subst (λ f. T (forceOk f)) (sym (toZ-ofZ (k .fits .force))) (known k .ranges .force))
 
-finger-gradient-requires : tie.Need-finger-gradient-requires
-finger-gradient-requires c κs =
-    let k = c .before .before .before in
-    let h = known k in
-    (k .pre .0, h .setup, h .lengths .newer .long, h .range .newer, h .range .height)
-
--- the gradients as they were worked out
-module _ (c : tie.After-finger-gradient) where
-  abbrev start : tie.Start
-  start = c .before .before .before .before
-
-  abbrev point-array : List ℤ
-  point-array = c .before .point-gradients .last .1 .1 .1 .1 .0
-
-  point-gradients-are : take (points (given start .s)) point-array ≡ G start .points
-  unfolding gradients
-  point-gradients-are = ap (λ (n : ℕ). take n point-array) (sym (known start .lengths .newer .long)) ∙ c .before .point-gradients .ensures .1
-
-  finger-gradient-is : toZ w64 (ofZ w64 (c .finger-gradient .result)) ≡ G start .finger
-  unfolding gradients
-  finger-gradient-is = toZ-ofZ (record { sfits = c .finger-gradient .ok }) ∙ c .finger-gradient .ensures
-
-moves-requires : tie.Need-moves-requires
-moves-requires c κs =
-    let d = c .before .before in
-    let k = start d in
-    let h = known k in (
-      subst (MoveRanges (given k .s) (given k .x .newer) (given k .x .older) (given k .x .contact)) (sym (toZ-ofZ (k .fits .pluck))) (h .moving),
-      d .before .point-gradients .ensures .0,
-      subst (λ l. Bounded l 255) (sym (point-gradients-are d)) (h .sizes .gradients),
-      refl,
-      h .finger,
-      subst (λ g. g within 255) (sym (finger-gradient-is d)) (h .sizes .gradient),
-      subst (λ f. T (forceOk f)) (sym (toZ-ofZ (k .fits .force))) (h .force),
-    )
-
--- the moves as they were worked out
-module _ (c : tie.After-moves) where
-  abbrev d : tie.After-finger-gradient
-  d = c .before .before .before
-
+-- the arrays
+module _ (m : tie.After-settle-finger) where
   abbrev k : tie.Start
-  k = start d
+  k = m .before .before .before .before .before .before .before .before
 
-  abbrev move-array : List ℤ
-  move-array = c .moves .last .1 .1 .1 .1 .1 .1 .1 .1 .1 .0
+  abbrev n : ℕ
+  n = points (given k .s)
 
-  moves-are : _≡_ {A = PointsAndFinger} (record { points = take (points (given k .s)) move-array; finger = c .moves .result }) (δ k)
-  moves-are = c .moves .ensures .1
-      ∙ ap₂ (λ G F. Steps.moves (given k .s) (given k .x) G F) (ap₂ (λ points finger. record { points = points; finger = finger }) (point-gradients-are d) (finger-gradient-is d))
-      (forces-read (k .fits .pluck) (k .fits .force))
+  abbrev index : ℕ
+  index = p (given k .s) - 1
 
-  point-moves-are : take (points (given k .s)) move-array ≡ δ k .points
-  point-moves-are = ap (λ m. m .points) moves-are
+  abbrev moves : List ℤ
+  moves = m .before .before .settle-points .last .1 .1 .1 .1 .1 .1 .1 .1 .1 .0
 
-  finger-move-is : toZ w64 (ofZ w64 (c .moves .result)) ≡ δ k .finger
-  finger-move-is = toZ-ofZ (record { sfits = c .moves .ok }) ∙ ap (λ m. m .finger) moves-are
+  abbrev contacts : List ℤ
+  contacts = m .before .before .settle-points .last .1 .1 .1 .1 .1 .1 .1 .1 .1 .1 .0
 
-  sizes : StepRanges (given k .s) (given k .x) (G k) (given k .F)
-  sizes = known k .sizes
+  free-moves : take n moves ≡ places n (moveAt (given k .s) (y k) (given k .F) (G k))
+  unfolding clear gradients
+  free-moves = m .before .before .settle-points .ensures .2 ∙ ap (λ f. places n (lastMove (given k .s) (given k .x .newer) (given k .x .older) (y k .contact) (G k .points) f)) (toZ-ofZ (k .fits .pluck))
 
-  finger-move-size : δ k .finger within 2 ^ 44
-  unfolding Steps.moves
-  finger-move-size = rounded₂-size sizes
+  free-contacts : take n contacts ≡ places n (contactAt (given k .s) (y k) (given k .F) (G k))
+  unfolding clear gradients
+  free-contacts = m .before .before .settle-points .ensures .3 ∙ ap (λ f. places n (lastContact (given k .s) (given k .x .newer) (given k .x .older) (y k .contact) (G k .points) f)) (toZ-ofZ (k .fits .pluck))
 
-  -- of the first n numbers, where n is the length of a lent string
-  front-moves : (n : ℕ) → n ≡ points (given k .s) → take n move-array ≡ δ k .points
-  front-moves n e = ap (λ (n : ℕ). take n move-array) e ∙ point-moves-are
+  settled : m .settle-finger .result ≡ atFinger (given k .s) (given k .neck) (given k .x) (given k .F)
+  settled = m .settle-finger .ensures ∙ ap (atFinger (given k .s) (given k .neck) (given k .x)) (forces-read (k .fits .pluck) (k .fits .force))
 
-  front-gradients : (n : ℕ) → n ≡ points (given k .s) → take n (point-array d) ≡ G k .points
-  front-gradients n e = ap (λ (n : ℕ). take n (point-array d)) e ∙ point-gradients-are d
+  -- an array of numbers f with z put in at p
+  put-in : (l : List ℤ) (f : ℕ → ℤ) (z : ℤ) → take n l ≡ places n f → take n (set l index z) ≡ places n (λ i. cond (eqb i (p (given k .s))) z (f i))
+  put-in l f z e = tabulate-set (pos 0) n (λ j. f (suc j)) index l z (finger-point (strings k)) e ∙ ap (λ (i : ℕ). tabulate n (λ j. cond (eqb (suc j) i) z (f (suc j)))) (finger-place (strings k))
 
-  moves-within : (n : ℕ) → n ≡ points (given k .s) → Bounded (take n move-array) moveSize
-  moves-within n e = subst (λ l. Bounded l moveSize) (sym (front-moves n e)) (λ i. moves-small sizes i .move)
+  -- the move at p, read from its bits, and all moves
+  abbrev delta : ℤ
+  delta = toZ w32 (ofZ w32 (m .settle-finger .result .delta))
 
-  gradients-within : (n : ℕ) → n ≡ points (given k .s) → Bounded (take n (point-array d)) 255
-  gradients-within n e = subst (λ l. Bounded l 255) (sym (front-gradients n e)) (sizes .gradients)
+  delta-is : delta ≡ moveAtFinger (given k .s) (y k) (given k .F) (G k)
+  delta-is = ap (λ r. toZ w32 (ofZ w32 (r .delta))) settled ∙ toZ-ofZ (Size.fits (at-finger-size (known k .ranges)) tt)
 
-  changes-within : (n : ℕ) → n ≡ points (given k .s) → Bounded (times (take n (point-array d)) (take n move-array)) changeSize
-  changes-within n e = subst (λ l. Bounded l changeSize) (sym (ap₂ times (front-gradients n e) (front-moves n e))) (changes-small (given k .s) (given k .neck) (given k .x) (given k .F) (k .pre .1))
+  abbrev move : ℕ → ℤ
+  move i = cond (eqb i (p (given k .s))) (moveAtFinger (given k .s) (y k) (given k .F) (G k)) (moveAt (given k .s) (y k) (given k .F) (G k) i)
 
-  lengths : Examined (given k .s) (given k .neck) (given k .x)
-  lengths = known k .lengths
+  moves-are : take n (set moves index delta) ≡ places n move
+  moves-are = put-in moves (moveAt (given k .s) (y k) (given k .F) (G k)) delta free-moves ∙ ap (λ z. places n (λ i. cond (eqb i (p (given k .s))) z (moveAt (given k .s) (y k) (given k .F) (G k) i))) delta-is
+
+  -- of the first numbers, as many as the older string has
+  front-moves : take (length (given k .x .older)) (set moves index delta) ≡ places n move
+  front-moves = ap (λ (n : ℕ). take n (set moves index delta)) (strings k .older-length) ∙ moves-are
+
+  move-size : (i : ℕ) → move i within moveSize
+  move-size i = either (eqb i (p (given k .s)))
+    where
+      either : (t : Bool) → cond t (moveAtFinger (given k .s) (y k) (given k .F) (G k)) (moveAt (given k .s) (y k) (given k .F) (G k) i) within moveSize
+      either true = at-finger-size (known k .ranges)
+      either false = away-size (known k .ranges) i
+
+  moves-within : Bounded (take (length (given k .x .older)) (set moves index delta)) moveSize
+  moves-within = subst (λ l. Bounded l moveSize) (sym front-moves) (places-each (λ z. z within moveSize) (natural zero-le) n move move-size)
 
 next-string-requires : tie.Need-next-string-requires
+unfolding displacementOk
 next-string-requires c κs =
-    let m = c .before .before in
-    let e = lengths m .older .long in
-    (short (k m) _ e, m .moves .ensures .0, k m .pre .2, sizes m .older, moves-within m _ e)
+    let m = c .before .before .before .before .before in
+    let h = strings (k m) in
+    let short : length (given (k m) .x .older) ≤ 127 = rw (h .older-length) (most-points h) in
+    (short, length-set (moves m) (index m) (delta m) ∙ m .before .before .settle-points .ensures .0, k m .pre .2, bounded 1048576 (given (k m) .x .older) (h .older), moves-within m)
 
-next-contact-requires : tie.Need-next-contact-requires
-next-contact-requires c κs =
-    let m = c .before .before .before .before .before .before in
-    let e = lengths m .contact .long in
-    (short (k m) _ e, d m .before .point-gradients .ensures .0, m .moves .ensures .0, k m .pre .3, sizes m .contact, gradients-within m _ e, changes-within m _ e)
-
--- δ at p, read from the array
-module _ (m : tie.After-moves) where
-  abbrev place : ℕ
-  place = p (given (k m) .s)
-
-  strings-range : StringRanges (given (k m) .s) (given (k m) .x .newer) (given (k m) .x .older)
-  strings-range = known (k m) .moving .strings
-
-  delta-read : getD (move-array m) (place - 1) (pos 0) ≡ at (δ (k m) .points) place
-  delta-read = sym (front-at (move-array m) (place - 1) (finger-point strings-range)) ∙ ap₂ at (point-moves-are m) (finger-place strings-range)
-
-  delta-size : at (δ (k m) .points) place within moveSize
-  delta-size = moves-small (sizes m) place .move
-
-  delta-fits : SFits w32 (getD (move-array m) (place - 1) (pos 0))
-  delta-fits = rw delta-read (fits delta-size tt)
-
-  delta-is : toZ w64 (ofZ w64 (toZ w32 (ofZ w32 (getD (move-array m) (place - 1) (pos 0))))) ≡ at (δ (k m) .points) place
-  delta-is = wide-is w64 tt delta-fits ∙ delta-read
-
-new-finger-requires : tie.Need-new-finger-requires
-new-finger-requires c κs =
-    let m = c .before .before .before .before .before .before .before .before .before in (
-      subst (λ g. g within 255) (sym (finger-gradient-is (d m))) (sizes m .gradient),
-      subst (λ z. z within moveSize) (sym (delta-is m)) (delta-size m),
-      subst (λ z. z within 2 ^ 44) (sym (finger-move-is m)) (finger-move-size m),
-    )
-
--- the next state, part by part
-module _ (c : tie.After-new-finger) where
-  abbrev m : tie.After-moves
-  m = c .before .before .before .before .before .before .before .before .before .before
+-- what is written
+module _ (c : tie.After-next-string) where
+  abbrev m : tie.After-settle-finger
+  m = c .before .before .before .before .before .before
 
   abbrev a : tie.Start
   a = k m
 
-  abbrev strings : tie.After-next-string
-  strings = c .before .before .before .before .before .before .before
-
-  abbrev contacts : tie.After-next-contact
-  contacts = c .before .before .before
-
-  abbrev n : ℕ
-  n = points (given a .s)
-
-  string-is : take n (strings .next-string .last .1 .1 .0) ≡ plus (given a .x .older) (δ a .points)
-  string-is =
-      let e = lengths m .older .long in
-      ap (λ (n : ℕ). take n (strings .next-string .last .1 .1 .0)) (sym e) ∙ strings .next-string .ensures .1 ∙ ap (plus (given a .x .older)) (front-moves m _ e)
-
-  contact-is : take n (contacts .next-contact .last .1 .1 .1 .0) ≡ minus (given a .x .contact) (times (G a .points) (δ a .points))
-  contact-is =
-      let e = lengths m .contact .long in
-      ap (λ (n : ℕ). take n (contacts .next-contact .last .1 .1 .1 .0)) (sym e) ∙ contacts .next-contact .ensures .1
-      ∙ ap₂ (λ g d. minus (given a .x .contact) (times g d)) (front-gradients m _ e) (front-moves m _ e)
-
-  finger-is : c .new-finger .result ≡ record { height = given a .x .finger .older +ℤ δ a .finger; contact = given a .x .finger .contact +ℤ G a .finger *ℤ (at (δ a .points) (p (given a .s)) -ℤ δ a .finger) }
-  finger-is = c .new-finger .ensures ∙ (λ i. record {
-    height = given a .x .finger .older +ℤ finger-move-is m i;
-    contact = given a .x .finger .contact +ℤ finger-gradient-is (d m) i *ℤ (delta-is m i -ℤ finger-move-is m i);
-  })
+  string-is : take (n m) (c .next-string .last .1 .1 .0) ≡ plus (given a .x .older) (places (n m) (move m))
+  string-is = ap (λ (n : ℕ). take n (c .next-string .last .1 .1 .0)) (sym (strings a .older-length)) ∙ c .next-string .ensures .1 ∙ ap (plus (given a .x .older)) (front-moves m)
 
 returns : tie.Need-returns
-unfolding nextState workedStep
-returns c = (
-  strings c .next-string .ensures .0,
-  contacts c .next-contact .ensures .0,
-  λ i. record {
-    newer = string-is c i;
-    older = given (a c) .x .newer;
-    contact = contact-is c i;
-    finger = record { newer = finger-is c i .height; older = given (a c) .x .finger .newer; contact = finger-is c i .contact };
-  },
-)
+unfolding clear
+returns c =
+    let d = c .before in
+    let told = c .struct-told3 .given in
+    let h = m d in
+    let k = a d in
+    let s = given k .s in
+    let contact = toZ-ofZ (sfits-of (told .1 .0 .1)) ∙ ap (λ r. r .contact) (settled h) in
+    let height = toZ-ofZ (sfits-of (told .1 .1 .0 .1)) ∙ ap (λ r. r .height) (settled h) in
+    let finger-contact = toZ-ofZ (sfits-of (told .1 .1 .1 .0 .1)) ∙ ap (λ r. r .«finger_contact») (settled h) in
+    let contacts-are = put-in h (contacts h) (contactAt s (y k) (given k .F) (G k)) _ (free-contacts h)
+    ∙ ap (λ z. places (n h) (λ i. cond (eqb i (p s)) z (contactAt s (y k) (given k .F) (G k) i))) contact in (
+      d .next-string .ensures .0,
+      length-set (contacts h) (index h) _ ∙ h .before .before .settle-points .ensures .1,
+      (λ i. record {
+        newer = string-is d i;
+        older = given k .x .newer;
+        contact = contacts-are i;
+        finger = record { newer = height i; older = given k .x .finger .newer; contact = finger-contact i };
+      }) ∙ sym (next-outright (known k .lengths) (given k .F)),
+    )
 
 pub work-out-spec : {M : Type 1} → statement M
 work-out-spec =
-    tie.close (tie.spec point-gradients-requires finger-gradient-requires moves-requires next-string-requires next-contact-requires (λ c. search needs)
-    (λ c. lengths (c .before .before .before .before .before .before .before .before) .setup .first) (λ c. search needs)
-    (λ c. let m = c .before .before .before .before .before .before .before .before in let l = finger-point (strings-range m) in let h = short (k m) _ refl in omega arith)
-    (λ c. wide-fits w64 tt (delta-fits (c .before .before .before .before .before .before .before .before .before))) new-finger-requires returns)
+    tie.close
+    (tie.spec
+    (λ c κs. strings (c .before))
+    settle-points-requires
+    settle-finger-requires
+    (λ c. search needs)
+    (λ c. facts (strings (k (c .before .before .before))) .first)
+    (λ c. search needs)
+    (λ c. in-array (k (c .before .before .before)))
+    (λ c. facts (strings (k (c .before .before .before))) .first)
+    (λ c. search needs)
+    (λ c. in-array (k (c .before .before .before)))
+    next-string-requires
+    returns)
