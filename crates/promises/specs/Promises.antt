@@ -186,6 +186,10 @@ pub record Pulled (s : Setup) (x : State) (F : Forces) (g : PointsAndFinger → 
 abbrev pub KeptOrPulled : Setup → State → Forces → (PointsAndFinger → ℤ) → (State → ℤ) → (G last : PointsAndFinger) → Type 0
 KeptOrPulled s x F g ψ G last = (g last ≡ g G) ⊎ (Pulled s x F g ψ × (g last ≡ pos 0))
 
+-- with the first at most three workings
+abbrev pub AtMostThree : List PointsAndFinger → Type 0
+AtMostThree dropped = length dropped ≤ 2
+
 -- what is claimed of an accepted step from the lent buffers v to v', worked out as t
 pub record AcceptedStep (s : Setup) (neck : Neck) (v : Lent) (F : Forces) (t : WorkedStep) (v' : Lent) : Type 0 where
   pub clears : Clears s neck (stateOf v) (t .before) (t .cleared)
@@ -193,7 +197,7 @@ pub record AcceptedStep (s : Setup) (neck : Neck) (v : Lent) (F : Forces) (t : W
   -- the gradients of the last moves are reached in one to three workings
   pub dropped : List PointsAndFinger
   pub workings : Workings s (t .before) F (gradients s neck (stateOf v)) dropped (t .gradients)
-  pub three : length dropped ≤ 2
+  pub three : AtMostThree dropped
   pub point : (i : ℕ) → KeptOrPulled s (t .before) F (λ G. at (G .points) i) (λ x. at (x .contact) i) (gradients s neck (stateOf v)) (t .gradients)
   pub finger : KeptOrPulled s (t .before) F (λ G. G .finger) (λ x. x .finger .contact) (gradients s neck (stateOf v)) (t .gradients)
   -- the state after it solves the equations with them, and no other state does

@@ -6,18 +6,19 @@ use mathlib.Core.Bool.{not}
 use mathlib.Core.List.{[], _∷_, zipWith}
 use Prim.Native.Nat.{ℕ}
 use native.Mathlib.Omega.{arith}
-use lib.Dec.{T, eqb}
+use lib.Dec.{T, eqb, lit≤}
 use lib.IntN.{ℤ, pos, negℤ, natAbs, _+ℤ_, _-ℤ_, _*ℤ_}
 use lib.Signed.{leZ, leZ-yes, ltZ-yes}
 use Rattle.integers.specs.Size.{size}
-use Rattle.model.specs.Differences.{plus, minus, times, D1}
+use Rattle.model.specs.Differences.{at, plus, minus, times, D1}
 use Rattle.model.specs.Gradient.{gradient, root, greatest}
 use Rattle.model.specs.Rounding.{nearest, floor}
 use Rattle.model.specs.System.{rounded₁, rounded₂}
 use Rattle.model.specs.State.{State, stateOf, Forces, PointsAndFinger}
 use Rattle.model.specs.Step.{gradients, A, c, system, moves, workedStep, nextState, clear, cleared, kept, letGo, settled, somePull, dropped, totals, pulls, left}
 use Rattle.model.specs.Bench.{benchSetup, flatNeck, finger, onePoint, forces}
-use Rattle.promises.specs.Promises.{IsNearest, IsRounded, ClearedAt, Clears, Solves, Left, Workings, KeptOrPulled, NotBelow}
+use Rattle.model.specs.declared.Setup.{Setup}
+use Rattle.promises.specs.Promises.{IsNearest, IsRounded, ClearedAt, Clears, Solves, Left, Workings, KeptOrPulled, AtMostThree, NotBelow}
 use Rattle.promises.specs.Instances.{apart, by-place, none, clinging}
 
 -- ---- what is cleared
@@ -57,11 +58,25 @@ drawn = record { points = pos 255 ∷ []; finger = pos 8 }
 abbrev dropped-away : PointsAndFinger
 dropped-away = record { points = pos 0 ∷ []; finger = pos 0 }
 
+-- the bench setup with a finger of mass m
+abbrev setupOf : (L K m : ℕ) → Setup
+setupOf L K m = record {
+  segments = 2;
+  tension = L;
+  stiffness = 0;
+  viscous = 0;
+  plain = 0;
+  finger = record { place = 1; stiffness = K; mass = m };
+  «pluck_place» = 1;
+  «bridge_place» = 1;
+  «neck_place» = 1;
+}
+
 -- a working of one point and the finger with G and g leads to u', ψ', w'' and φ'
-worked : (L K : ℕ) (F : Forces) (G g u v ψ w w' φ u' ψ' w'' φ' : ℤ) → let H : PointsAndFinger = record { points = G ∷ []; finger = g } in let s = benchSetup L 0 0 0 K in
+worked : (L K m : ℕ) (F : Forces) (G g u v ψ w w' φ u' ψ' w'' φ' : ℤ) → let H : PointsAndFinger = record { points = G ∷ []; finger = g } in let s = setupOf L K m in
     IsRounded (system s (single u v ψ w w' φ) H F) (u' -ℤ v) (w'' -ℤ w') → ψ' ≡ ψ -ℤ G *ℤ (u' -ℤ v) → φ' ≡ φ +ℤ g *ℤ ((u' -ℤ v) -ℤ (w'' -ℤ w'))
     → Solves s (single u v ψ w w' φ) H F (single u' u ψ' w'' w φ')
-worked L K F G g u v ψ w w' φ u' ψ' w'' φ' rounded contact finger-contact = record {
+worked L K m F G g u v ψ w w' φ u' ψ' w'' φ' rounded contact finger-contact = record {
   length-newer = refl;
   length-contact = refl;
   older = refl;
@@ -78,11 +93,11 @@ near h k = record { near = leZ-yes h; tie = λ q. apart q k }
 
 first-solved : Solves (clinging .setup) clingingState drawn none (single (negℤ (pos 50)) (negℤ (pos 26)) (negℤ (pos 1913)) (negℤ (pos 25)) (negℤ (pos 46)) (negℤ (pos 246)))
 unfolding none clinging A c system minus zipWith D1
-first-solved = worked _ _ _ _ _ _ _ _ _ _ _ _ _ _ _ (record { D = pos 287805504; X = pos 2234548352; Y = pos 11965022752; positive = ltZ-yes tt; row₁ = refl; row₂ = refl; near₁ = near tt tt; near₂ = near tt tt }) refl refl
+first-solved = worked _ _ _ _ _ _ _ _ _ _ _ _ _ _ _ _ (record { D = pos 287805504; X = pos 2234548352; Y = pos 11965022752; positive = ltZ-yes tt; row₁ = refl; row₂ = refl; near₁ = near tt tt; near₂ = near tt tt }) refl refl
 
 second-solved : Solves (clinging .setup) clingingState dropped-away none (single (pos 57) (negℤ (pos 26)) (pos 127) (negℤ (pos 25)) (negℤ (pos 46)) (pos 26))
 unfolding none clinging A c system minus zipWith D1
-second-solved = worked _ _ _ _ _ _ _ _ _ _ _ _ _ _ _ (record { D = pos 16777216; X = pos 1925709824; Y = pos 704643072; positive = ltZ-yes tt; row₁ = refl; row₂ = refl; near₁ = near tt tt; near₂ = near tt tt }) refl refl
+second-solved = worked _ _ _ _ _ _ _ _ _ _ _ _ _ _ _ _ (record { D = pos 16777216; X = pos 1925709824; Y = pos 704643072; positive = ltZ-yes tt; row₁ = refl; row₂ = refl; near₁ = near tt tt; near₂ = near tt tt }) refl refl
 
 idle : {q : ℤ} → Left (pos 0) q (pos 0)
 idle = record { pulls = λ h k. absurd (h .lt); idle = λ h. refl; pushes = λ h. refl }
@@ -109,6 +124,49 @@ two-workings = (
   (record { next = _; solves = second-solved; length-points = refl; point = by-place _ idle idle idle (λ k. idle); finger = idle }, refl),
 )
 
+-- three workings: the first drops the point's contact, the second the finger's, and the third none
+abbrev light : State
+light = single (negℤ (pos 29)) (negℤ (pos 52)) (pos 311) (negℤ (pos 88)) (negℤ (pos 69)) (negℤ (pos 341))
+
+abbrev finger-left : PointsAndFinger
+finger-left = record { points = pos 0 ∷ []; finger = pos 42 }
+
+three-workings : Workings (setupOf 100 500 1) light none (record { points = pos 17 ∷ []; finger = pos 42 }) (finger-left ∷ dropped-away ∷ []) dropped-away × AtMostThree (finger-left ∷ dropped-away ∷ [])
+unfolding none A c system minus zipWith D1
+three-workings = (
+  (
+    record {
+      next = single (negℤ (pos 5)) (negℤ (pos 29)) (negℤ (pos 488)) (negℤ (pos 39)) (negℤ (pos 88)) (pos 373);
+      solves = worked 100 500 1 _ _ _ _ _ _ _ _ _ _ _ _ _ (record { D = pos 7741289; X = pos 361415962; Y = pos 235411958; positive = ltZ-yes tt; row₁ = refl; row₂ = refl; near₁ = near tt tt; near₂ = near tt tt }) refl refl;
+      length-points = refl;
+      point = by-place _ idle (record { pulls = λ h k. refl; idle = λ h. absurd (h .le); pushes = λ h. absurd (h .le) }) idle (λ k. idle);
+      finger = record { pulls = λ h k. absurd (k .lt); idle = λ h. absurd (h .le); pushes = λ h. refl };
+    },
+    λ q. apart (ap (λ G. at (G .points) 1) q) tt,
+    (
+      record {
+        next = single (negℤ (pos 5)) (negℤ (pos 29)) (pos 311) (negℤ (pos 38)) (negℤ (pos 88)) (pos 331);
+        solves = worked 100 500 1 _ _ _ _ _ _ _ _ _ _ _ _ _ (record { D = pos 7231204; X = pos 342752852; Y = pos 225048520; positive = ltZ-yes tt; row₁ = refl; row₂ = refl; near₁ = near tt tt; near₂ = near tt tt }) refl refl;
+        length-points = refl;
+        point = by-place _ idle idle idle (λ k. idle);
+        finger = record { pulls = λ h k. refl; idle = λ h. absurd (h .le); pushes = λ h. absurd (h .le) };
+      },
+      λ q. apart (ap (λ G. G .finger) q) tt,
+      (
+        record {
+          next = single (negℤ (pos 5)) (negℤ (pos 29)) (pos 311) (negℤ (pos 107)) (negℤ (pos 88)) (negℤ (pos 341));
+          solves = worked 100 500 1 _ _ _ _ _ _ _ _ _ _ _ _ _ (record { D = pos 4096; X = pos 194216; Y = negℤ (pos 155648); positive = ltZ-yes tt; row₁ = refl; row₂ = refl; near₁ = near tt tt; near₂ = near tt tt }) refl refl;
+          length-points = refl;
+          point = by-place _ idle idle idle (λ k. idle);
+          finger = idle;
+        },
+        refl,
+      ),
+    ),
+  ),
+  lit≤ tt,
+)
+
 -- string and finger move by 20 and 40: both contacts have a new variable below 0, −60, and hold, since the old one is 100; one working is enough
 abbrev held : PointsAndFinger
 held = record { points = pos 8 ∷ []; finger = pos 8 }
@@ -118,7 +176,7 @@ unfolding A c system minus zipWith D1
 holding = (
   record {
     next = single (pos 4) (negℤ (pos 16)) (negℤ (pos 60)) (pos 8) (negℤ (pos 32)) (negℤ (pos 60));
-    solves = worked 1 64 _ _ _ _ _ _ _ _ _ _ _ _ _ (record { D = pos 1; X = pos 20; Y = pos 40; positive = ltZ-yes tt; row₁ = refl; row₂ = refl; near₁ = near tt tt; near₂ = near tt tt }) refl refl;
+    solves = worked 1 64 4096 _ _ _ _ _ _ _ _ _ _ _ _ _ (record { D = pos 1; X = pos 20; Y = pos 40; positive = ltZ-yes tt; row₁ = refl; row₂ = refl; near₁ = near tt tt; near₂ = near tt tt }) refl refl;
     length-points = refl;
     point = by-place _ idle (record { pulls = λ h k. absurd (k .lt); idle = λ h. absurd (h .le); pushes = λ h. refl }) idle (λ k. idle);
     finger = record { pulls = λ h k. absurd (k .lt); idle = λ h. absurd (h .le); pushes = λ h. refl };
