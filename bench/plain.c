@@ -1,22 +1,11 @@
 /* The same scheme in plain C, with the same refusals: what a C programmer would write by hand. It is built at two levels of optimisation,
    under the names PLAIN_STEP and PLAIN_BLOCK, and compared with the product in speed and in every bit. */
+#include <math.h>
 #include "../include/string_voice.h"
 
 #define DISPLACEMENT 1048576
 #define CONTACT 67108864
 #define FORCE 1073741824
-
-static uint16_t roots[1024];
-
-/* Entry q is the greatest whole number whose square is at most 64q. */
-__attribute__((constructor)) static void fill_roots(void)
-{
-    for (int q = 0, r = 0; q < 1024; q++) {
-        while ((r + 1) * (r + 1) <= 64 * q)
-            r++;
-        roots[q] = (uint16_t)r;
-    }
-}
 
 static int outside(int64_t x, int64_t low, int64_t high) { return x < low || x > high; }
 
@@ -37,12 +26,16 @@ static uint32_t setup_refusal(sv_setup s)
     return 0;
 }
 
+/* The greatest whole number whose square is at most 64q, for q up to 1023: where 64q is no square, its root is farther from a whole number than a float
+   rounds it. */
+static int64_t root(uint64_t q) { return (int64_t)sqrtf((float)(64 * q)); }
+
 static int64_t gradient(uint16_t stiffness, int64_t depth)
 {
     if (depth <= 0)
         return 0;
     uint64_t q = (uint64_t)stiffness * (uint64_t)depth / 1024;
-    return roots[q < 1023 ? q : 1023];
+    return root(q < 1023 ? q : 1023);
 }
 
 static int64_t nearest(int64_t num, int64_t den)

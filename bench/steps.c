@@ -20,10 +20,17 @@ double_block_function double_block_o2, double_block_o3;
 /* A pluck comes every CYCLE stretches of STEPS steps. The kinds are WHOLE ones in whole numbers, then REAL ones in double
    precision. */
 enum { STEPS = 64, CYCLE = 8, CYCLES = 150, WARM_UP = 4, WHOLE = 3, REAL = 2, KINDS = WHOLE + REAL, SIZES = 5 };
+/* The neck lies far below; the string strikes a neck close under two points of three; the finger presses it to the neck around p; a force at e presses it to
+   two points of three of an arched neck, and it stays there. */
+enum contacts { FREE, STRUCK, STOPPED, PRESSED, SCENES };
+static const char *const names[SCENES] = {"free", "struck", "stopped", "pressed"};
 static step_function *const step[WHOLE] = {sv_step, plain_step_o2, plain_step_o3};
 static block_function *const block[WHOLE] = {sv_play_block, plain_block_o2, plain_block_o3};
 static double_step_function *const double_step[REAL] = {double_step_o2, double_step_o3};
 static double_block_function *const double_block[REAL] = {double_block_o2, double_block_o3};
+
+/* How deep an arched neck is where it is lowest. */
+#define ARCH 20000
 
 /* How far a sample of a free string in double precision may be from the product's: this part of the loudest one. */
 #define TOLERANCE 0.005
@@ -45,7 +52,7 @@ typedef struct {
 /* A scene, its voices (first those that make single steps, then those that play blocks), and what came of it. */
 typedef struct {
     sv_setup setup;
-    int in_contact;
+    enum contacts contacts;
     int32_t heights[127];
     uint16_t stiffness[127];
     double double_heights[127], double_stiffness[127];
@@ -69,12 +76,14 @@ static void fail(const char *what)
     exit(1);
 }
 
-/* The forces of a stretch: a pluck upward at the start of a cycle, then nothing, or in contact a light push toward the neck; no finger force. */
+/* The forces of a stretch: a pluck upward at the start of a cycle, added to what the scene holds the string down with, at e or by the finger. */
 static void forces_of(const scene *c, int phase, int32_t *forces)
 {
+    int32_t press = -(int32_t)(64 * ARCH * c->setup.tension / c->setup.segments); /* 16 times what holds the string's middle at that depth */
+    int32_t held = c->contacts == STRUCK ? -500000 : c->contacts == PRESSED ? press : 0;
     for (int j = 0; j < STEPS; j++) {
-        forces[2 * j] = phase == 0 && j < 30 ? 9000000 : c->in_contact ? -500000 : 0;
-        forces[2 * j + 1] = 0;
+        forces[2 * j] = held + (phase == 0 && j < 30 ? 9000000 : 0);
+        forces[2 * j + 1] = c->contacts == STOPPED ? press : 0;
     }
 }
 
@@ -175,21 +184,41 @@ static void round_of(scene *c, int phase, int timed)
     count_pressed(c);
 }
 
-static void lay_out(scene *c, uint32_t segments, int in_contact)
+/* A neck over which a string pulled down at `lowest` lies bent: on each side a parabola. */
+static int32_t arch(uint32_t segments, uint32_t lowest, uint32_t place)
 {
+    double t = place < lowest ? (double)place / lowest : (double)(segments - place) / (segments - lowest);
+    return (int32_t)(-ARCH * t * t);
+}
+
+static int32_t height(sv_setup setup, enum contacts contacts, uint32_t place)
+{
+    uint32_t p = setup.finger_place, away = place > p ? place - p : p - place;
+    if (contacts == STRUCK && place % 3 > 0)
+        return 0;
+    if (contacts == STOPPED && away <= setup.segments / 32)
+        return arch(setup.segments, p, place);
+    if (contacts == PRESSED && place % 3 > 0)
+        return arch(setup.segments, setup.pluck_place, place);
+    return -1000000;
+}
+
+static void lay_out(scene *c, uint32_t segments, enum contacts contacts)
+{
+    int32_t finger = contacts == STOPPED ? 0 : 100000;
     memset(c, 0, sizeof *c);
     c->setup = (sv_setup){segments, 2000, 100, 50, 20, 500, 4096, segments / 3, segments / 2, segments - 2, segments * 2 / 3};
-    c->in_contact = in_contact;
+    c->contacts = contacts;
     for (size_t i = 0; i < segments - 1; i++) {
-        c->double_heights[i] = c->heights[i] = in_contact && i % 3 < 2 ? 0 : -1000000; /* in contact: the neck is close under two points of three */
+        c->double_heights[i] = c->heights[i] = height(c->setup, contacts, (uint32_t)i + 1);
         c->double_stiffness[i] = c->stiffness[i] = 3000;
     }
     for (int blocks = 0; blocks < 2; blocks++)
         for (int k = 0; k < KINDS; k++) {
             if (k < WHOLE)
-                c->whole[blocks][k].finger = (sv_finger){100000, 100000, 0};
+                c->whole[blocks][k].finger = (sv_finger){finger, finger, 0};
             else
-                c->real[blocks][k - WHOLE].finger = (double_finger){100000, 100000, 0};
+                c->real[blocks][k - WHOLE].finger = (double_finger){finger, finger, 0};
             for (int phase = 0; phase < CYCLE; phase++)
                 c->best[blocks][k][phase] = 1e18;
         }
@@ -199,7 +228,7 @@ static void lay_out(scene *c, uint32_t segments, int in_contact)
 static void play(scene *scenes)
 {
     for (int cycle = -WARM_UP; cycle < CYCLES; cycle++)
-        for (int i = 0; i < 2 * SIZES; i++)
+        for (int i = 0; i < SCENES * SIZES; i++)
             for (int phase = 0; phase < CYCLE; phase++)
                 round_of(&scenes[i], phase, cycle >= 0);
     for (int i = 0; i < SIZES; i++)
@@ -214,7 +243,7 @@ static void row(const scene *c, int blocks)
     for (int k = 0; k < KINDS; k++)
         for (int phase = 0; phase < CYCLE; phase++)
             mean[k] += c->best[blocks][k][phase] / CYCLE;
-    printf("| %u | %s | %.0f %% |", c->setup.segments, c->in_contact ? "contact" : "free", 100.0 * c->pressed / c->looked_at);
+    printf("| %u | %s | %.0f %% |", c->setup.segments, names[c->contacts], 100.0 * c->pressed / c->looked_at);
     for (int k = 0; k < KINDS; k++)
         printf(" %.0f |", mean[k]);
     for (int k = 1; k < KINDS; k++)
@@ -226,7 +255,7 @@ static void table(const scene *scenes, int blocks)
 {
     printf("%s\n\n| N | scene | pressed | product, ns | C -O2 | C -O3 | double -O2 | double -O3 | ratio to C -O2 | to C -O3 | to double -O2 | to double -O3 |\n"
            "|---|---|---|---|---|---|---|---|---|---|---|---|\n", blocks ? "A step in a block of 64:" : "A step by itself:");
-    for (int i = 0; i < 2 * SIZES; i++)
+    for (int i = 0; i < SCENES * SIZES; i++)
         row(&scenes[i], blocks);
     printf("\n");
 }
@@ -235,11 +264,11 @@ static void table(const scene *scenes, int blocks)
 static void nearness(const scene *scenes)
 {
     double apart = 0, shares = 0;
-    for (int i = 0; i < SIZES; i++) {
-        const scene *contact = &scenes[SIZES + i];
-        apart = fmax(apart, scenes[i].apart / scenes[i].loudest);
-        shares = fmax(shares, fabs((double)(contact->pressed - contact->double_pressed) / contact->looked_at));
-    }
+    for (int i = 0; i < SCENES * SIZES; i++)
+        if (scenes[i].contacts == FREE)
+            apart = fmax(apart, scenes[i].apart / scenes[i].loudest);
+        else
+            shares = fmax(shares, fabs((double)(scenes[i].pressed - scenes[i].double_pressed) / scenes[i].looked_at));
     printf("Double precision beside the product: samples of a free string at most %.2f %% of the loudest apart; in contact, the shares of points pressed at "
            "most %.1f %% of all points apart.\n", 100 * apart, 100 * shares);
 }
@@ -247,8 +276,8 @@ static void nearness(const scene *scenes)
 int main(void)
 {
     static const uint32_t sizes[SIZES] = {16, 32, 64, 90, 128};
-    static scene scenes[2 * SIZES]; /* free, then in contact */
-    for (int i = 0; i < 2 * SIZES; i++)
+    static scene scenes[SCENES * SIZES]; /* those of a kind together */
+    for (int i = 0; i < SCENES * SIZES; i++)
         lay_out(&scenes[i], sizes[i % SIZES], i / SIZES);
     play(scenes);
     table(scenes, 0);

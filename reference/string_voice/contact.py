@@ -1,10 +1,10 @@
-"""01, 'Contact gradient'."""
+"""01, 'Contact gradient', and 02, item 4."""
 
 from math import isqrt
 
 
 def root(q):
-    """Entry q of the root table: the greatest whole number whose square is at most 64·q."""
+    """The greatest whole number whose square is at most 64·q."""
     return isqrt(64 * q)
 
 

@@ -9,7 +9,6 @@ ghost use Rattle.model.specs.Answers.{blockResult};
 ghost use Rattle.model.specs.Block.{countsWrong, blockRules, block};
 ghost use Rattle.model.specs.Refusal.{firstOf};
 use crate::play::play;
-use contact::roots::root_table;
 use model::BlockAnswer;
 use model::Finger;
 use model::Setup;
@@ -87,10 +86,8 @@ pub fn play_block(
             finger,
         };
     }
-    let roots = root_table();
     play(
         setup,
-        &roots,
         heights,
         stiffness,
         first,

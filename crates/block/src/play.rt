@@ -2,7 +2,6 @@
 ghost use mathlib.Core.Path.{_≡_};
 ghost use Prim.Native.Nat.{_≤_};
 ghost use lib.ListN.{length};
-ghost use Rattle.contact.specs.Table.{rootTable};
 ghost use Rattle.laws.specs.Ready.{Ready};
 ghost use Rattle.model.specs.Answers.{blockResult};
 ghost use Rattle.model.specs.Block as Blocks;
@@ -14,13 +13,11 @@ use model::BlockAnswer;
 use model::Finger;
 use model::Setup;
 use model::StepAnswer;
-use model::bounds::ROOT_ENTRIES;
 use step::turn::step_ready;
 
 // Steps a voice that is ready, until the forces end or a step is refused. `count` is raised with each accepted step.
 pub fn play(
     setup: Setup,
-    roots: &[u16; ROOT_ENTRIES],
     heights: &[i32],
     stiffness: &[u16],
     first: &mut [i32],
@@ -31,7 +28,7 @@ pub fn play(
     forces: &[i32],
     samples: &mut [f32],
 ) -> BlockAnswer
-    requires { ⌜ (now roots ≡ rootTable) × Ready setup (record { heights = now heights; stiffness = now stiffness })
+    requires { ⌜ Ready setup (record { heights = now heights; stiffness = now stiffness })
         (stateOf (record { first = now first; second = now second; contact = now contact; turn = turn; finger = finger }))
         × (length (now forces) ≤ length (now samples)) ⌝ }
     ensures { λ r. ⌜ blockResult r (now (first .exit)) (now (second .exit)) (now (contact .exit)) (now (samples .exit)) ≡ Blocks.play setup
@@ -45,7 +42,6 @@ pub fn play(
         let acting = forces_at(forces, count);
         let answer = step_ready(
             setup,
-            roots,
             heights,
             stiffness,
             first,

@@ -1,30 +1,33 @@
 // 01, 'Contact gradient': the gradient for a stiffness and a depth.
 ghost use mathlib.Core.Path.{_≡_};
-ghost use Prim.Native.Nat.{min};
-ghost use Rattle.model.specs.Gradient;
-ghost use Rattle.contact.specs.Table.{rootTable};
+ghost use lib.IntN.{pos};
+ghost use lib.Signed.{_<ℤ_};
+ghost use Rattle.model.specs.Gradient as Gradient;
+ghost use Rattle.contact.specs.Contacts.{rootNumber};
+use crate::root::root;
 use model::bounds::DEPTH_UNIT;
-use model::bounds::LAST_ROOT;
-use model::bounds::ROOT_ENTRIES;
+use model::bounds::LAST_NUMBER;
 
-// The last q of the table.
-const LAST: u64 = LAST_ROOT as u64;
-
-// The place of q in the table: the last one for all q beyond it.
-fn capped(q: u64) -> usize
-    ensures { λ r. ⌜ r ≡ min 1023 q ⌝ }
+// The number q of a depth above 0, whose root is the gradient: the last one for all beyond it.
+pub fn root_number(stiffness: u16, depth: i32) -> u16
+    requires { ⌜ pos 0 <ℤ depth ⌝ }
+    ensures { λ r. ⌜ r ≡ rootNumber stiffness depth ⌝ }
 {
-    if q < LAST { q as usize } else { LAST_ROOT }
+    let q = (stiffness as u64) * (depth as u64) / DEPTH_UNIT;
+    if q < LAST_NUMBER {
+        q as u16
+    } else {
+        LAST_NUMBER as u16
+    }
 }
 
-// The gradient, by a lent root table.
-pub fn gradient(roots: &[u16; ROOT_ENTRIES], stiffness: u16, depth: i32) -> i64
-    requires { ⌜ now roots ≡ rootTable ⌝ }
+// The gradient.
+pub fn gradient(stiffness: u16, depth: i32) -> i64
     ensures { λ r. ⌜ r ≡ Gradient.gradient stiffness depth ⌝ }
 {
     if depth <= 0 {
         return 0;
     }
-    let q = (stiffness as u64) * (depth as u64) / DEPTH_UNIT;
-    roots[capped(q)] as i64
+    let q = root_number(stiffness, depth);
+    root(q) as i64
 }

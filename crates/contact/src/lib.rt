@@ -1,6 +1,8 @@
-// 01, 'Contact gradient', and 02, item 3: the contacts of a step before its moves. `clearing` is what is kept of a contact variable, `roots` the root
-// table, `gradient` the gradient for a stiffness and a depth, `contacts` both of each point over the neck and of the finger.
+// 01, 'Contact gradient', and 02, items 3 and 4: the contacts of a step before its moves. `clearing` is what is kept of a contact variable, `root` the root of
+// a number q, `gradient` the gradient for a stiffness and a depth, `pressed` which points touch the neck, `gradients` those of all points, `finger` both of the finger.
 pub mod clearing;
-pub mod contacts;
+pub mod finger;
 pub mod gradient;
-pub mod roots;
+pub mod gradients;
+pub mod pressed;
+pub mod root;

@@ -85,7 +85,7 @@ pub record Begun {A : Type 0} (d : A) (n : ℕ) (f : ℕ → A) (i : ℕ) (l : L
   pub filled : Filled d n f i l
   pub rest : (k : ℕ) → i ≤ k → getD l k d ≡ d
 
-getD-replicate : {A : Type 0} (n : ℕ) (d : A) (k : ℕ) → getD (replicate n d) k d ≡ d
+pub getD-replicate : {A : Type 0} (n : ℕ) (d : A) (k : ℕ) → getD (replicate n d) k d ≡ d
 getD-replicate zero d k = refl
 getD-replicate (suc n) d zero = refl
 getD-replicate (suc n) d (suc k) = getD-replicate n d k
@@ -110,3 +110,16 @@ module _ {A : Type 0} {d : A} {n : ℕ} {f : ℕ → A} where
       go : (k : ℕ) → k < length l → Dec (k < i) → getD l k d ≡ f k
       go k h (yes p) = B .filled .each k p
       go k h (no p) = let q : i ≤ k = omega arith in B .rest k q ∙ sym (past k q)
+
+-- ---- an array that a loop works out in place: what is not done yet is as it was
+
+pub record Rewritten {A : Type 0} (d : A) (n : ℕ) (was : List A) (f : ℕ → A) (i : ℕ) (l : List A) : Type 0 where
+  pub filled : Filled d n f i l
+  pub rest : (k : ℕ) → i ≤ k → getD l k d ≡ getD was k d
+
+module _ {A : Type 0} {d : A} {n : ℕ} {was : List A} {f : ℕ → A} where
+  pub rewritten-none : length was ≡ n → Rewritten d n was f 0 was
+  rewritten-none e = record { filled = filled-none e; rest = λ k h. refl }
+
+  pub rewritten-more : {i : ℕ} {l : List A} {v : A} → i < n → Rewritten d n was f i l → v ≡ f i → Rewritten d n was f (i + 1) (set l i v)
+  rewritten-more {i} {l} {v} h R e = record { filled = filled-more h (R .filled) e; rest = λ k g. getD-set-other l i k v d (omega arith) ∙ R .rest k (omega arith) }

@@ -41,7 +41,7 @@ squares d ψ = go (leZ d (pos 0))
 
 -- ---- what is kept is in range
 
-kept-ok : (d ψ : ℤ) → T (contactOk ψ) → T (contactOk (kept d ψ))
+pub kept-ok : (d ψ : ℤ) → T (contactOk ψ) → T (contactOk (kept d ψ))
 unfolding kept contactOk inside
 kept-ok d ψ h = go (leZ d (pos 0))
   where

@@ -7,7 +7,7 @@ use mathlib.Core.Logic.{⊎-elim}
 use Prim.Native.Nat.{ℕ, suc, _≤_}
 use lib.Dec.{eqb, eqb-refl}
 use lib.IntN.{ℤ, pos, _+ℤ_, _-ℤ_, _*ℤ_}
-use lib.Signed.{_≤ℤ_, ltZ}
+use lib.Signed.{_≤ℤ_, _<ℤ_, ltZ}
 use mir.Facts.{eqb-yes}
 use Rattle.integers.specs.Solve.{_⊕_, _⊖_, _⊗_, #_, _≐_, solve}
 use Rattle.integers.specs.Derive.{_≼_, _≺_, _⊢_, deduce}
@@ -29,12 +29,19 @@ use Rattle.laws.specs.Pulling.{moveBy, totalBy, systemBy, pairLeft, pair
 
 -- ---- the tests
 
+-- a depth is above 0 where the string u lies below the height h, and elsewhere at most 0
+pub depth-above : {h u : ℤ} → u <ℤ h → pos 0 <ℤ (h -ℤ u)
+depth-above {h} {u} l = deduce 2 (λ h u. Derive.times 1 (u ≺ h) ∷ [] ⊢ # 0 ≺ h ⊖ u) tt h u l
+
+pub depth-below : {h u : ℤ} → h ≤ℤ u → (h -ℤ u) ≤ℤ pos 0
+depth-below {h} {u} l = deduce 2 (λ h u. Derive.times 1 (h ≼ u) ∷ [] ⊢ h ⊖ u ≼ # 0) tt h u l
+
 -- what is kept of a contact variable at height h and displacement u
 pub kept-test : (h u ψ : ℤ) → kept (h -ℤ u) ψ ≡ cond (below u h) ψ (pos 0)
 unfolding kept
 kept-test h u ψ = ⊎-elim
-    (λ l. ap (λ b. cond b (pos 0) ψ) (lt-leZ (h -ℤ u) (pos 0) (deduce 2 (λ h u. Derive.times 1 (u ≺ h) ∷ [] ⊢ # 0 ≺ h ⊖ u) tt h u l)) ∙ ap (λ b. cond b ψ (pos 0)) (sym (lt-below u h l)))
-    (λ l. ap (λ b. cond b (pos 0) ψ) (le-leZ (h -ℤ u) (pos 0) (deduce 2 (λ h u. Derive.times 1 (h ≼ u) ∷ [] ⊢ h ⊖ u ≼ # 0) tt h u l)) ∙ ap (λ b. cond b ψ (pos 0)) (sym (le-below u h l)))
+    (λ l. ap (λ b. cond b (pos 0) ψ) (lt-leZ (h -ℤ u) (pos 0) (depth-above l)) ∙ ap (λ b. cond b ψ (pos 0)) (sym (lt-below u h l)))
+    (λ l. ap (λ b. cond b (pos 0) ψ) (le-leZ (h -ℤ u) (pos 0) (depth-below l)) ∙ ap (λ b. cond b ψ (pos 0)) (sym (le-below u h l)))
     (<-or-≤ u h)
 
 -- what is left of a gradient, which is never negative: whether it is above 0 need not be tested

@@ -102,11 +102,16 @@ energies-are : storedEnergy workedSetup before ∷ storedEnergy workedSetup stat
 unfolding storedEnergy minus zipWith D1 dot E sum
 energies-are = refl
 
--- ---- the root table: the entries that 01 gives, and its cap
+-- ---- the roots: those that 01 gives, one below a square and at it, and the cap
 
-entries-are : root 0 ∷ root 1 ∷ root 2 ∷ root 1016 ∷ root 1017 ∷ root 1023 ∷ [] ≡ 0 ∷ 8 ∷ 11 ∷ 254 ∷ 255 ∷ 255 ∷ []
+roots-are : root 0 ∷ root 1 ∷ root 2 ∷ root 1016 ∷ root 1017 ∷ root 1023 ∷ [] ≡ 0 ∷ 8 ∷ 11 ∷ 254 ∷ 255 ∷ 255 ∷ []
 unfolding root greatest
-entries-are = refl
+roots-are = refl
+
+-- 64·15 is 31² − 1, and 64·16 is 32²
+roots-at-squares : root 15 ∷ root 16 ∷ [] ≡ 30 ∷ 32 ∷ []
+unfolding root greatest
+roots-at-squares = refl
 
 gradients-at : gradient 65535 (pos 1048576) ∷ gradient 1 (pos 1023) ∷ gradient 1 (pos 1024) ∷ gradient 65535 (pos 1) ∷ gradient 65535 (pos 0) ∷ gradient 65535 (negℤ (pos 1)) ∷ [] ≡ pos 255 ∷ pos 0 ∷ pos 8 ∷ pos 63 ∷ pos 0 ∷ pos 0 ∷ []
 unfolding gradient root greatest

@@ -39,12 +39,10 @@ pub const LARGEST_HEIGHT: i32 = 0;
 // 'Laying the neck': frets.
 pub const MOST_FRETS: usize = 24;
 
-// 'Contact gradient': what stiffness·d is divided by, the entries of the root table and the last of their numbers q.
+// 'Contact gradient': what stiffness·d is divided by, and the last number q.
 pub const DEPTH_UNIT: u64 = 1024;
 
-pub const ROOT_ENTRIES: usize = 1024;
-
-pub const LAST_ROOT: usize = 1023;
+pub const LAST_NUMBER: u64 = 1023;
 
 // 'One step': a fresh start's finger height.
 pub const LEAST_START_HEIGHT: i32 = 0;
@@ -53,6 +51,9 @@ pub const LEAST_START_HEIGHT: i32 = 0;
 pub const MOST_POINTS: usize = 127;
 
 pub const MOST_PLACES: usize = 129;
+
+// The length of a list of points: a multiple of eight.
+pub const MOST_LISTED: usize = 128;
 
 // 'Playing a block, reading a place': what a displacement or a depth is divided by.
 pub const SAMPLE_UNIT: f32 = 1048576.0;

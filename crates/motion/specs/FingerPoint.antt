@@ -9,34 +9,29 @@ use Rattle.integers.specs.Size.{_within_, natural}
 use Rattle.model.specs.Ranges.{forceOk}
 use Rattle.model.specs.Setup.{p}
 use Rattle.model.specs.Differences.{at}
-use Rattle.model.specs.State.{State, Neck, Forces, PointsAndFinger}
-use Rattle.model.specs.Step.{clear, gradients}
+use Rattle.model.specs.State.{State, Forces, PointsAndFinger}
+use Rattle.model.specs.Step.{gradients}
 use Rattle.model.specs.declared.Finger.{Finger}
 use Rattle.model.specs.declared.Setup.{Setup}
-use Rattle.laws.specs.Clearing.{in-range-clear}
-use Rattle.laws.specs.Gradient.{gradient-size, gradient-nonneg}
-use Rattle.laws.specs.InRange.{InRange}
 use Rattle.laws.specs.LastMoves.{lastPair, last-pair-stays, pointMove, fingerMove, freeAt, pairAt, moveAt, moveAtFinger, contactAtFinger, fingerMoveAt, fingerContactAt}
 use Rattle.laws.specs.MoveSizes.{moveSize, changeSize, away-small}
 use Rattle.laws.specs.Pulling.{left-keeps}
 use Rattle.laws.specs.Sizes.{side-size}
-use Rattle.motion.specs.MoveRanges.{PointRanges, FingerRanges, workedSizes}
+use Rattle.motion.specs.MoveRanges.{FingerRanges, workedSizes}
+use Rattle.motion.specs.Weighted.{StringRanges}
 use Rattle.motion.specs.Pair.{PairRanges, Pair, PairAt, move-small, finger-move-size, pair-left}
-use Rattle.motion.specs.InRange.{kept-size, side-within, gradient-within, gradient-low}
+use Rattle.motion.specs.InRange.{side-within}
 use Rattle.motion.specs.declared.finger_pair.WorkedPair.{WorkedPair}
 use Rattle.motion.specs.declared.finger_point.FingerPoint.{FingerPoint}
 
--- of a step from x on the neck
-abbrev pub atFinger : Setup → Neck → State → Forces → FingerPoint
-atFinger s neck x F =
-    let y = clear s neck x in
-    let G = gradients s neck x in
-    record {
-      delta = moveAtFinger s y F G;
-      contact = contactAtFinger s y F G;
-      height = x .finger .older +ℤ fingerMoveAt s y F G;
-      «finger_contact» = fingerContactAt s y F G;
-    }
+-- from the state y after clearing, with the gradients G
+abbrev pub atFinger : Setup → State → PointsAndFinger → Forces → FingerPoint
+atFinger s y G F = record {
+  delta = moveAtFinger s y F G;
+  contact = contactAtFinger s y F G;
+  height = y .finger .older +ℤ fingerMoveAt s y F G;
+  «finger_contact» = fingerContactAt s y F G;
+}
 
 module _ (s : Setup) (b ψ : ℤ) (finger : Finger) (f : ℤ) (q : ℤ × ℤ) where
   -- the last gradients and moves
@@ -64,20 +59,17 @@ module _ (s : Setup) (b ψ : ℤ) (finger : Finger) (f : ℤ) (q : ℤ × ℤ) w
 
 -- ---- what a step gives the workings
 
--- a step from x on the neck that passes 1 to 12
-pub record StepRanges (s : Setup) (neck : Neck) (x : State) (F : Forces) : Type 0 where
-  pub points : PointRanges s (neck .heights) (neck .stiffness) (x .newer) (x .older) (x .contact) (F .pluck)
-  pub finger : FingerRanges (x .finger)
+-- the state y after clearing and the forces of a step that passes 1 to 12
+pub record StepRanges (s : Setup) (y : State) (F : Forces) : Type 0 where
+  pub strings : StringRanges s (y .newer) (y .older)
+  pub contact : (i : ℕ) → at (y .contact) i within 67108864
+  pub finger : FingerRanges (y .finger)
+  pub pluck : T (forceOk (F .pluck))
   pub force : T (forceOk (F .finger))
 
-module _ {s : Setup} {neck : Neck} {x : State} {F : Forces} (h : StepRanges s neck x F) where
-  -- the state after clearing, its gradients, and at p: c without the contact, the contact variable, and both gradients
-  abbrev y : State
-  y = clear s neck x
-
-  abbrev G : PointsAndFinger
-  G = gradients s neck x
-
+-- with gradients G
+module _ {s : Setup} {y : State} {F : Forces} (h : StepRanges s y F) (G : PointsAndFinger) where
+  -- at p: c without the contact, the contact variable, and both gradients
   abbrev b : ℤ
   b = freeAt s y F G (p s)
 
@@ -87,45 +79,14 @@ module _ {s : Setup} {neck : Neck} {x : State} {F : Forces} (h : StepRanges s ne
   abbrev q : ℤ × ℤ
   q = pairAt s y F G
 
-  pub contact-size : ψ within 67108864
-  unfolding clear
-  contact-size = kept-size (h .points) (p s)
-
-  pub own-size : q .0 within 255
-  unfolding gradients
-  own-size = gradient-within (neck .stiffness) (neck .heights) (x .newer) (p s)
-
-  pub pair : Pair q
-  unfolding gradients
-  pair = record { own = (own-size, gradient-low (neck .stiffness) (neck .heights) (x .newer) (p s)); gradient = (gradient-size _ _, gradient-nonneg _ _) }
-
-  cleared : InRange y
-  cleared = in-range-clear s neck record {
-    newer = h .points .strings .newer;
-    older = h .points .strings .older;
-    height = h .finger .newer;
-    older-height = h .finger .older;
-    contact = h .points .contact;
-    finger = h .finger .contact;
-  }
-
   pub pair-ranges : PairRanges s b ψ (y .finger) (F .finger)
-  unfolding clear
-  pair-ranges = record {
-    setup = h .points .strings .setup;
-    side = side-within (h .points) (p s);
-    contact = contact-size;
-    held = record { newer = h .finger .newer; older = h .finger .older; contact = cleared .finger };
-    force = h .force;
-  }
+  pair-ranges = record { setup = h .strings .setup; side = side-within (h .strings) (F .pluck) (h .pluck) (y .contact) (G .points) (p s); contact = h .contact (p s); held = h .finger; force = h .force }
 
   -- the moves are small enough that 32 bits hold a new displacement before it is judged
-  pub at-finger-size : moveAtFinger s y F G within moveSize
-  at-finger-size = entry (worked-sizes s b ψ (y .finger) (F .finger) q pair-ranges pair) 3
+  pub at-finger-size : Pair q → moveAtFinger s y F G within moveSize
+  at-finger-size pair = entry (worked-sizes s b ψ (y .finger) (F .finger) q pair-ranges pair) 3
 
-  pub away-size : (i : ℕ) → moveAt s y F G i within moveSize
-  unfolding clear gradients
-  away-size i =
-      let k = neck .stiffness in
-      let last = left-keeps (λ z. z within 255) (natural zero-le) _ _ (gradient-within k (neck .heights) (x .newer) i) in
-      away-small s (side-size (side-within (h .points) i) (kept-size (h .points) i) last) last .move
+  pub away-size : (i : ℕ) → at (G .points) i within 255 → moveAt s y F G i within moveSize
+  away-size i g =
+      let last = left-keeps (λ z. z within 255) (natural zero-le) _ _ g in
+      away-small s (side-size (side-within (h .strings) (F .pluck) (h .pluck) (y .contact) (G .points) i) (h .contact i) last) last .move

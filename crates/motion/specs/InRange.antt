@@ -1,9 +1,9 @@
 -- What strings, contact variables, gradients and forces in range give the code: their lengths and sizes, and that each number is read back from its bits as
 -- itself.
-use mathlib.Core.Path.{_≡_, refl, sym, _∙_}
+use mathlib.Core.Path.{_≡_, refl, sym, _∙_, subst}
 use mathlib.Core.Bool.{Bool, true, false, cond}
 use mathlib.Core.List.{List}
-use Prim.Native.Nat.{ℕ, suc, _-_, _≤_, _<_, zero-le}
+use Prim.Native.Nat.{ℕ, suc, _-_, _≤_, _<_}
 use native.Mathlib.Omega.{arith}
 use lib.Dec.{T, eqb, lit<}
 use lib.IntN.{ℤ, pos}
@@ -12,23 +12,22 @@ use lib.ListN.{getD}
 use mir.Syntax.{w32}
 use mir.Val.{toZ, ofZ}
 use Rattle.integers.specs.Bits.{back}
-use Rattle.integers.specs.Order.{≤-refl}
-use Rattle.integers.specs.Size.{_within_, natural}
+use Rattle.integers.specs.Filled.{getD-tabulate}
+use Rattle.integers.specs.Order.{nonneg}
+use Rattle.integers.specs.Size.{_within_}
 use Rattle.model.specs.Ranges.{all, inside, displacementOk, contactOk, forceOk}
 use Rattle.model.specs.Setup.{e, p, points}
 use Rattle.model.specs.Differences.{at, minus}
-use Rattle.model.specs.Gradient.{gradient}
 use Rattle.model.specs.Step.{kept}
 use Rattle.model.specs.declared.Setup.{Setup}
 use Rattle.laws.specs.Accepted.{SetupFacts, setup-facts}
-use Rattle.laws.specs.Gradient.{gradient-size, gradient-nonneg}
 use Rattle.laws.specs.LastMoves.{freeSide}
-use Rattle.laws.specs.Pulling.{zip-each}
 use Rattle.laws.specs.Refusals.{at-all}
 use Rattle.laws.specs.Sizes.{freeSize, bounded, inside-within, only, free-size, kept-within}
 use Rattle.laws.specs.Strings.{_spans_, spans-minus, at-zip}
 use Rattle.motion.specs.Weighted.{StringRanges}
-use Rattle.motion.specs.MoveRanges.{PointRanges, keptContacts, gradientsAt}
+use Rattle.contact.specs.Contacts.{keptContacts, gradientsIn}
+use Rattle.motion.specs.MoveRanges.{PointRanges}
 
 -- a string of displacements
 module _ (u : List ℤ) (h : T (all displacementOk u)) where
@@ -72,8 +71,13 @@ module _ {s : Setup} {u v : List ℤ} (h : StringRanges s u v) where
   pub finger-point : p s - 1 < points s
   finger-point = let k = facts .first in let l = facts .last in omega arith
 
+  -- c without the contact, where the pluck force f is in range
+  pub side-within : (f : ℤ) → T (forceOk f) → (ψ G : List ℤ) (i : ℕ) → freeSide s u v ψ G f i within freeSize
+  unfolding displacementOk forceOk
+  side-within f k ψ G i = free-size facts (h .newer-length ∙ sym (h .older-length)) (bounded 1048576 u (h .newer)) (bounded 1048576 v (h .older)) (only (eqb i (e s)) (inside-within 1073741824 f k)) i
+
 -- the points over the neck
-module _ {s : Setup} {h : List ℤ} {k : List ℕ} {u v ψ : List ℤ} {f : ℤ} (r : PointRanges s h k u v ψ f) where
+module _ {s : Setup} {h u v ψ G : List ℤ} {f : ℤ} (r : PointRanges s h u v ψ G f) where
   depths-span : minus h u spans points s
   depths-span = spans-minus (record { long = r .heights-length }) (newer-spans (r .strings))
 
@@ -82,19 +86,12 @@ module _ {s : Setup} {h : List ℤ} {k : List ℕ} {u v ψ : List ℤ} {f : ℤ}
   unfolding kept
   kept-size i = rw (at-zip kept refl depths-span (record { long = r .contact-length }) i) (kept-within (at (minus h u) i) (at ψ i) (contact-size ψ (r .contact) i))
 
-  -- c without the contact
-  pub side-within : (i : ℕ) → freeSide s u v ψ (gradientsAt k h u) f i within freeSize
-  unfolding displacementOk forceOk
-  side-within i =
-      let q = r .strings in
-      free-size (facts q) (q .newer-length ∙ sym (q .older-length)) (bounded 1048576 u (q .newer)) (bounded 1048576 v (q .older)) (only (eqb i (e s)) (inside-within 1073741824 f (r .force))) i
+-- a gradient as an array holds it
+pub gradient-in : {n : ℕ} (gs : List ℕ) (i : ℕ) → i < n → at (gradientsIn n gs) (suc i) ≡ pos (getD gs i 0)
+gradient-in {n} gs i l = getD-tabulate n (λ j. pos (getD gs j 0)) (pos 0) i l
 
--- a gradient
-pub gradient-within : (k : List ℕ) (h u : List ℤ) (i : ℕ) → at (gradientsAt k h u) i within 255
-gradient-within k h u = zip-each (λ g. g within 255) (natural zero-le) gradient 0 k (minus h u) (λ j. gradient-size _)
-
-pub gradient-low : (k : List ℕ) (h u : List ℤ) (i : ℕ) → pos 0 ≤ℤ at (gradientsAt k h u) i
-gradient-low k h u = zip-each (λ g. pos 0 ≤ℤ g) ≤-refl gradient 0 k (minus h u) (λ j. gradient-nonneg _)
+pub gradient-low : {n : ℕ} (gs : List ℕ) (i : ℕ) → i < n → pos 0 ≤ℤ at (gradientsIn n gs) (suc i)
+gradient-low gs i l = subst (λ g. pos 0 ≤ℤ g) (sym (gradient-in gs i l)) (nonneg (getD gs i 0))
 
 pub force-ok : (f : ℤ) (b : Bool) → T (forceOk f) → T (forceOk (cond b f (pos 0)))
 unfolding forceOk inside

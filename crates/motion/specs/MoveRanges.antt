@@ -1,29 +1,28 @@
--- The ranges of what the moves are worked out from, as a step's refusals 1 to 12 leave them, and the contacts of the points.
+-- The ranges of what the moves are worked out from, as a step's refusals 1 to 12 leave them.
 use mathlib.Core.Path.{_≡_}
-use mathlib.Core.List.{List, [], _∷_, zipWith}
+use mathlib.Core.List.{List, [], _∷_}
 use Prim.Native.Nat.{ℕ, _^_}
 use lib.Dec.{T}
 use lib.IntN.{ℤ}
 use lib.ListN.{length}
+use Rattle.integers.specs.Size.{_within_}
+use Rattle.model.specs.Differences.{at}
 use Rattle.model.specs.Ranges.{all, displacementOk, contactOk, forceOk, heightOk}
 use Rattle.model.specs.Setup.{points}
-use Rattle.model.specs.Differences.{minus}
-use Rattle.model.specs.Gradient.{gradient}
-use Rattle.model.specs.Step.{kept}
 use Rattle.model.specs.declared.Finger.{Finger}
 use Rattle.model.specs.declared.Setup.{Setup}
 use Rattle.laws.specs.MoveSizes.{moveSize}
 use Rattle.laws.specs.Sizes.{freeSize}
 use Rattle.motion.specs.Weighted.{StringRanges}
 
--- newer string u, older string v, contact variables ψ and pluck force f, over a neck of heights h and stiffnesses k
-pub record PointRanges (s : Setup) (h : List ℤ) (k : List ℕ) (u v ψ : List ℤ) (f : ℤ) : Type 0 where
+-- newer string u, older string v, contact variables ψ, gradients G and pluck force f, over a neck of heights h
+pub record PointRanges (s : Setup) (h u v ψ G : List ℤ) (f : ℤ) : Type 0 where
   pub strings : StringRanges s u v
   pub heights-length : length h ≡ points s
-  pub stiffness-length : length k ≡ points s
   pub contact-length : length ψ ≡ points s
   pub heights : T (all heightOk h)
   pub contact : T (all contactOk ψ)
+  pub gradients : (i : ℕ) → at G i within 255
   pub force : T (forceOk f)
 
 -- a finger that passes 11
@@ -31,13 +30,6 @@ pub record FingerRanges (finger : Finger) : Type 0 where
   pub newer : T (displacementOk (finger .newer))
   pub older : T (displacementOk (finger .older))
   pub contact : T (contactOk (finger .contact))
-
--- the contact variables of the points after clearing, and their gradients
-abbrev pub keptContacts : (h u ψ : List ℤ) → List ℤ
-keptContacts h u ψ = zipWith kept (minus h u) ψ
-
-abbrev pub gradientsAt : (k : List ℕ) (h u : List ℤ) → List ℤ
-gradientsAt k h u = zipWith gradient k (minus h u)
 
 -- how large c without the contact, a gradient and a contact variable of a point are
 abbrev pub pointSizes : List ℕ

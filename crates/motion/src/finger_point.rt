@@ -5,9 +5,11 @@ ghost use lib.Dec.{T};
 ghost use lib.IntN.{_+ℤ_, _-ℤ_, _*ℤ_};
 ghost use Rattle.integers.specs.Machine.{Within};
 ghost use Rattle.integers.specs.Size.{_within_};
-ghost use Rattle.contact.specs.Table.{rootTable};
+ghost use Rattle.contact.specs.Contacts.{keptContacts, gradientsIn, fingerDepth, keptFinger};
 ghost use Rattle.laws.specs.MoveSizes.{changeSize};
+ghost use Rattle.model.specs.Gradient.{gradient};
 ghost use Rattle.model.specs.Ranges.{forceOk};
+ghost use Rattle.model.specs.Setup.{K, points};
 ghost use Rattle.motion.specs.Weighted as Weights;
 ghost use Rattle.motion.specs.Weighted.{placed};
 ghost use Rattle.motion.specs.MoveRanges.{PointRanges, FingerRanges, workedSizes};
@@ -17,12 +19,12 @@ use crate::finger_pair::WorkedPair;
 use crate::finger_pair::settle_pair;
 use crate::next_finger::new_finger;
 use crate::points::force_at;
-use contact::contacts::finger_contact;
-use contact::contacts::point_contact;
+use contact::clearing::kept_at;
+use contact::finger::finger_contact;
 use model::Finger;
 use model::Setup;
 use model::bounds::MOST_PLACES;
-use model::bounds::ROOT_ENTRIES;
+use model::bounds::MOST_POINTS;
 
 // The move of the point at p and its new contact variable, and the finger's new height and contact variable, before they are judged.
 pub struct FingerPoint {
@@ -53,12 +55,11 @@ fn next_at_finger(contact: i32, finger: Finger, worked: WorkedPair) -> FingerPoi
     }
 }
 
-// Those of a step. `weights` is the weighted string.
+// Those of a step. `gradients` has those of the points at its front, `weights` is the weighted string.
 pub fn settle_finger(
     setup: Setup,
-    roots: &[u16; ROOT_ENTRIES],
     heights: &[i32],
-    stiffness: &[u16],
+    gradients: &[u8; MOST_POINTS],
     weights: &[i64; MOST_PLACES],
     newer: &[i32],
     older: &[i32],
@@ -67,17 +68,18 @@ pub fn settle_finger(
     pluck: i32,
     force: i32,
 ) -> FingerPoint
-    requires { ⌜ (now roots ≡ rootTable) × PointRanges setup (now heights) (now stiffness) (now newer) (now older) (now contact) pluck
+    requires { ⌜ PointRanges setup (now heights) (now newer) (now older) (now contact) (gradientsIn (points setup) (now gradients)) pluck
         × (now weights ≡ placed (Weights.weighted setup (now newer) (now older)))
         × FingerRanges finger × T (forceOk force) ⌝ }
     ensures { λ r. ⌜ r ≡ atFinger setup
-        (record { heights = now (heights .entry); stiffness = now (stiffness .entry) })
-        (record { newer = now (newer .entry); older = now (older .entry); contact = now (contact .entry); finger = finger })
+        (record { newer = now (newer .entry); older = now (older .entry); contact = keptContacts (now (heights .entry)) (now (newer .entry)) (now (contact .entry)); finger = keptFinger setup (now (newer .entry)) finger })
+        (record { points = gradientsIn (points setup) (now (gradients .entry)); finger = gradient (K setup) (fingerDepth setup (now (newer .entry)) finger) })
         (record { pluck = pluck; finger = force }) ⌝ }
 {
     let place = setup.finger.place as usize;
-    let own = point_contact(roots, heights, stiffness, newer, contact, place - 1);
-    let held = finger_contact(roots, setup, newer, finger);
+    let own = gradients[place - 1];
+    let variable = kept_at(heights, newer, contact, place - 1);
+    let held = finger_contact(setup, newer, finger);
     let pluck_at = force_at(setup, pluck, place);
     let side = free_side(setup, weights, newer, older, pluck_at, place - 1);
     let kept = Finger {
@@ -88,11 +90,11 @@ pub fn settle_finger(
     let pair = settle_pair(
         setup,
         side,
-        own.variable,
+        variable,
         kept,
         force,
-        own.gradient,
+        own as i64,
         held.gradient,
     );
-    next_at_finger(own.variable, kept, pair)
+    next_at_finger(variable, kept, pair)
 }

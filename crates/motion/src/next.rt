@@ -8,17 +8,17 @@ ghost use Rattle.laws.specs.Sizes.{Bounded};
 ghost use Rattle.model.specs.Differences.{plus};
 use model::bounds::MOST_POINTS;
 
-// The new string, v + δ, at the front of `out`.
-pub fn next_string(older: &[i32], moves: &[i32; MOST_POINTS], out: &mut [i32; MOST_POINTS])
-    requires { ⌜ (length (now older) ≤ 127) × (length (now moves) ≡ 127) × (length (now out) ≡ 127)
-        × Bounded (now older) 1048576 × Bounded (take (length (now older)) (now moves)) moveSize ⌝ }
-    ensures { λ r. ⌜ (length (now (out .exit)) ≡ 127)
-        × (take (length (now (older .entry))) (now (out .exit)) ≡ plus (now (older .entry)) (take (length (now (older .entry))) (now (moves .entry)))) ⌝ }
+// Writes the new string, v + δ, over the moves at the front of `string`.
+pub fn next_string(older: &[i32], string: &mut [i32; MOST_POINTS])
+    requires { ⌜ (length (now older) ≤ 127) × (length (now string) ≡ 127)
+        × Bounded (now older) 1048576 × Bounded (take (length (now older)) (now string)) moveSize ⌝ }
+    ensures { λ r. ⌜ (length (now (string .exit)) ≡ 127)
+        × (take (length (now (older .entry))) (now (string .exit)) ≡ plus (now (older .entry)) (take (length (now (older .entry))) (now (string .entry)))) ⌝ }
 {
     for i in 0..older.len() {
         let own = older[i];
-        let delta = moves[i];
-        out[i] = own + delta;
+        let delta = string[i];
+        string[i] = own + delta;
     }
 }
 

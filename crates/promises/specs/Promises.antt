@@ -104,7 +104,7 @@ pub record IsRounded (t : System) (x y : ℤ) : Type 0 where
 
 -- ---- the contact gradient
 
--- r is entry q of the root table: the greatest whole number whose square is at most 64·q
+-- r is the root of the number q: the greatest whole number whose square is at most 64·q
 pub record IsRoot (q r : ℕ) : Type 0 where
   pub low : r * r ≤ 64 * q
   pub high : 64 * q < suc r * suc r

@@ -1,6 +1,5 @@
 // 01, 'One step': a step of a voice that is ready, with rows 1 to 5, 6, 7 and 11 passed. Everything is worked out and judged before anything is written.
 ghost use mathlib.Core.Path.{_≡_};
-ghost use Rattle.contact.specs.Table.{rootTable};
 ghost use Rattle.laws.specs.Advance as Steps;
 ghost use Rattle.laws.specs.Advance.{advancedResult};
 ghost use Rattle.laws.specs.Ready.{Ready};
@@ -11,13 +10,11 @@ use model::Finger;
 use model::Setup;
 use model::StepAnswer;
 use model::bounds::MOST_POINTS;
-use model::bounds::ROOT_ENTRIES;
 
 // Steps from the newer and the older string: writes the new string over the older one and the contact variables, and answers with the turn that
 // it is given; or answers 12, 13 or 14 and leaves them.
 pub fn advance(
     setup: Setup,
-    roots: &[u16; ROOT_ENTRIES],
     heights: &[i32],
     stiffness: &[u16],
     newer: &[i32],
@@ -28,8 +25,7 @@ pub fn advance(
     pluck: i32,
     force: i32,
 ) -> StepAnswer
-    requires { ⌜ (now roots ≡ rootTable)
-        × Ready setup (record { heights = now heights; stiffness = now stiffness }) (record { newer = now newer; older = now older; contact = now contact; finger = finger }) ⌝ }
+    requires { ⌜ Ready setup (record { heights = now heights; stiffness = now stiffness }) (record { newer = now newer; older = now older; contact = now contact; finger = finger }) ⌝ }
     ensures { λ r. ⌜ advancedResult r (now (older .exit)) (now (contact .exit)) ≡ Steps.advance turn setup
         (record { heights = now (heights .entry); stiffness = now (stiffness .entry) })
         (record { newer = now (newer .entry); older = now (older .entry); contact = now (contact .entry); finger = finger })
@@ -42,7 +38,6 @@ pub fn advance(
     let mut contacts = [0i32; MOST_POINTS];
     let next = work_out(
         setup,
-        roots,
         heights,
         stiffness,
         newer,

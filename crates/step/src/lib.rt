@@ -13,7 +13,6 @@ ghost use Rattle.model.specs.Step as Steps;
 use crate::arguments::buffers_refusal;
 use crate::arguments::state_refusal;
 use crate::turn::step_ready;
-use contact::roots::root_table;
 use model::Finger;
 use model::Setup;
 use model::StepAnswer;
@@ -45,10 +44,8 @@ pub fn step(
     if refusal != 0 {
         return StepAnswer::Refused(refusal);
     }
-    let roots = root_table();
     step_ready(
         setup,
-        &roots,
         heights,
         stiffness,
         first,

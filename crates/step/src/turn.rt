@@ -1,6 +1,5 @@
 // 01, 'One step': which of the two lent strings is newer. Turn 0 means that the first is, any other number the second.
 ghost use mathlib.Core.Path.{_≡_};
-ghost use Rattle.contact.specs.Table.{rootTable};
 ghost use Rattle.laws.specs.Ready.{Ready};
 ghost use Rattle.model.specs.Answers.{stepResult};
 ghost use Rattle.model.specs.State.{stateOf};
@@ -9,12 +8,10 @@ use crate::advance::advance;
 use model::Finger;
 use model::Setup;
 use model::StepAnswer;
-use model::bounds::ROOT_ENTRIES;
 
 // A step of a voice that is ready, with rows 1 to 5, 6, 7 and 11 passed.
 pub fn step_ready(
     setup: Setup,
-    roots: &[u16; ROOT_ENTRIES],
     heights: &[i32],
     stiffness: &[u16],
     first: &mut [i32],
@@ -25,7 +22,7 @@ pub fn step_ready(
     pluck: i32,
     force: i32,
 ) -> StepAnswer
-    requires { ⌜ (now roots ≡ rootTable) × Ready setup (record { heights = now heights; stiffness = now stiffness })
+    requires { ⌜ Ready setup (record { heights = now heights; stiffness = now stiffness })
         (stateOf (record { first = now first; second = now second; contact = now contact; turn = turn; finger = finger })) ⌝ }
     ensures { λ r. ⌜ stepResult turn finger r (now (first .exit)) (now (second .exit)) (now (contact .exit)) ≡ Steps.step setup
         (record { heights = now (heights .entry); stiffness = now (stiffness .entry) })
@@ -35,7 +32,6 @@ pub fn step_ready(
     if turn == 0 {
         advance(
             setup,
-            roots,
             heights,
             stiffness,
             first,
@@ -49,7 +45,6 @@ pub fn step_ready(
     } else {
         advance(
             setup,
-            roots,
             heights,
             stiffness,
             second,

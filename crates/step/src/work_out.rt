@@ -4,21 +4,20 @@ ghost use lib.ListN.{length, take};
 ghost use Rattle.model.specs.Setup.{points};
 ghost use Rattle.model.specs.Step.{callRules, workedStep, nextState};
 ghost use Rattle.promises.specs.Promises.{Passed};
-ghost use Rattle.contact.specs.Table.{rootTable};
+use contact::gradients::point_gradients;
 use model::Finger;
 use model::Setup;
 use model::bounds::MOST_POINTS;
-use model::bounds::ROOT_ENTRIES;
 use motion::finger_point::settle_finger;
 use motion::next::next_string;
 use motion::next_finger::NewFinger;
 use motion::points::settle_points;
 use motion::weighted::weighted;
 
-// The new string and the new contact variables, at the front of `string` and `contacts`, and the new finger.
+// The new string and the new contact variables, at the front of `string` and `contacts`, and the new finger. On the way `string`
+// holds the moves.
 pub fn work_out(
     setup: Setup,
-    roots: &[u16; ROOT_ENTRIES],
     heights: &[i32],
     stiffness: &[u16],
     newer: &[i32],
@@ -30,7 +29,7 @@ pub fn work_out(
     string: &mut [i32; MOST_POINTS],
     contacts: &mut [i32; MOST_POINTS],
 ) -> NewFinger
-    requires { ⌜ (now roots ≡ rootTable) × Passed (callRules setup
+    requires { ⌜ Passed (callRules setup
         (record { heights = now heights; stiffness = now stiffness })
         (record { newer = now newer; older = now older; contact = now contact; finger = finger })
         (record { pluck = pluck; finger = force }))
@@ -45,26 +44,25 @@ pub fn work_out(
         (record { newer = now (newer .entry); older = now (older .entry); contact = now (contact .entry); finger = finger })
         (record { pluck = pluck; finger = force }))) ⌝ }
 {
+    let mut gradients = [0u8; MOST_POINTS];
+    point_gradients(heights, stiffness, newer, &mut gradients);
     let weights = weighted(setup, newer, older);
-    let mut moves = [0i32; MOST_POINTS];
     settle_points(
         setup,
-        roots,
         heights,
-        stiffness,
+        &gradients,
         &weights,
         newer,
         older,
         contact,
         pluck,
-        &mut moves,
+        string,
         contacts,
     );
     let pair = settle_finger(
         setup,
-        roots,
         heights,
-        stiffness,
+        &gradients,
         &weights,
         newer,
         older,
@@ -76,9 +74,9 @@ pub fn work_out(
     let place = setup.finger.place as usize;
     let delta = pair.delta;
     let variable = pair.contact;
-    moves[place - 1] = delta;
+    string[place - 1] = delta;
     contacts[place - 1] = variable;
-    next_string(older, &moves, string);
+    next_string(older, string);
     NewFinger {
         height: pair.height,
         contact: pair.finger_contact,

@@ -56,19 +56,18 @@ module _ (c : tie.Else1) where
 
 play-requires : tie.Need-play-requires
 play-requires c κs =
-    let made = c .before .before .before .before .before in
-    let e = made .before in
+    let e = c .before .before .before .before in
     let (ready, room) = block-ready (s (d e)) (neck (d e)) (v (d e)) (forces (d e)) (samples (d e)) (passed e) in
-    (made .root-table .ensures, ready, room)
+    (ready, room)
 
 returns-2 : tie.Need-returns-2
 unfolding block
 returns-2 c =
     let played = c .before .before .before .before .before in
-    let e = played .before .before .before .before .before .before .before in
+    let e = played .before .before .before .before .before in
     played .play .ensures ∙ made-by (rules (d e)) _ _ (passed e)
 
 pub play-block-spec : {M : Type 1} → statement M
 play-block-spec =
-    tie.close (tie.spec (λ c κs. tt) (λ c. search needs) (λ c. search needs) (λ c. search needs) (λ c. search needs) returns (λ c κs. tt) play-requires
+    tie.close (tie.spec (λ c κs. tt) (λ c. search needs) (λ c. search needs) (λ c. search needs) (λ c. search needs) returns play-requires
     (λ c. search needs) (λ c. search needs) (λ c. search needs) (λ c. search needs) returns-2)

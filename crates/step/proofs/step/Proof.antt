@@ -73,15 +73,15 @@ ready c =
     call-ready (given (call d) .s) (given (call d) .neck) (stateOf (given (call d) .x)) (no-number d) (sym (state-judged d) ∙ c .if2 .left)
 
 step-ready-requires : tie.Need-step-ready-requires
-step-ready-requires c κs = let t = c .before .before .before .before in (t .root-table .ensures, ready (t .before))
+step-ready-requires c κs = ready (c .before .before .before)
 
 returns-3 : tie.Need-returns-3
 returns-3 c =
     let made = c .before .before .before in
-    let a = call (made .before .before .before .before .before .before .before) in
+    let a = call (made .before .before .before .before .before) in
     made .step-ready .ensures ∙ ap (Steps.step (given a .s) (given a .neck) (given a .x)) (forces-read (a .fits .pluck) (a .fits .force))
 
 pub step-spec : {M : Type 1} → statement M
 step-spec =
     tie.close (tie.spec (λ c κs. tt) (λ c. search needs) (λ c. search needs) (λ c. search needs) returns (λ c κs. tt) (λ c. search needs) (λ c. search needs)
-    (λ c. search needs) returns-2 (λ c κs. tt) step-ready-requires (λ c. search needs) (λ c. search needs) (λ c. search needs) returns-3)
+    (λ c. search needs) returns-2 step-ready-requires (λ c. search needs) (λ c. search needs) (λ c. search needs) returns-3)

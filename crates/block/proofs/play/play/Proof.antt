@@ -32,11 +32,11 @@ record Playing (s : Setup) (neck : Neck) (forces : List ℤ) (v₀ : Lent) (samp
   rest : resumed s neck forces v samples n ≡ Blocks.play s neck v₀ (pairs forces) samples₀
 
 abbrev Inv-loop : tie.InvT-loop
-Inv-loop setup roots heights stiffness first₀ second₀ contact₀ turn₀ finger₀ forces samples₀ steps count₀ first second contact turn finger samples count =
+Inv-loop setup heights stiffness first₀ second₀ contact₀ turn₀ finger₀ forces samples₀ steps count₀ first second contact turn finger samples count =
     Playing setup (neckOf heights stiffness) forces (lentWith turn₀ finger₀ first₀ second₀ contact₀) samples₀ (lentWith turn finger first second contact) samples count
 
 abbrev μ-loop : tie.MeasureT-loop
-μ-loop setup roots heights stiffness first₀ second₀ contact₀ turn₀ finger₀ forces samples₀ steps count₀ first second contact turn finger samples count = length forces / 2 - count
+μ-loop setup heights stiffness first₀ second₀ contact₀ turn₀ finger₀ forces samples₀ steps count₀ first second contact turn finger samples count = length forces / 2 - count
 
 module _ (l : tie.At-loop Inv-loop μ-loop) where
   abbrev k : tie.Start Inv-loop μ-loop
@@ -61,12 +61,12 @@ loop-holds c =
     let asked = c .before .before .pre in
     record {
       most = omega arith;
-      ready = asked .1;
+      ready = asked .0;
       first = refl;
       second = refl;
       contact = refl;
       written = refl;
-      room = asked .2;
+      room = asked .1;
       rest = begun (a .setup) (neckOf (a .heights .now) (a .stiffness .now)) (a .forces .now) (lentWith (a .turn) (a .finger) (a .first .now) (a .second .now) (a .contact .now)) (a .samples .now);
     }
 
@@ -79,13 +79,13 @@ module _ (d : tie.After-step-ready Inv-loop μ-loop) where
   l = inside .before
 
   abbrev first : List ℤ
-  first = d .step-ready .last .1 .1 .1 .1 .0
+  first = d .step-ready .last .1 .1 .1 .0
 
   abbrev second : List ℤ
-  second = d .step-ready .last .1 .1 .1 .1 .1 .0
+  second = d .step-ready .last .1 .1 .1 .1 .0
 
   abbrev contact : List ℤ
-  contact = d .step-ready .last .1 .1 .1 .1 .1 .1 .0
+  contact = d .step-ready .last .1 .1 .1 .1 .1 .0
 
   -- with the forces that stand at its place
   more : OneMore (s l) (neck l) (forces l) (v l) (l .loop .count) (d .step-ready .result) first second contact
@@ -155,6 +155,6 @@ returns-2 c =
 pub play-spec : {M : Type 1} → statement M
 play-spec =
     tie.close (tie.spec Inv-loop μ-loop loop-holds (λ c κs. c .loop-test .taken)
-    (λ c κs. let l = c .before .before .before .before .before .before .before in (k l .pre .0, l .loop .inv .ready)) (λ c. search needs) (λ c κs. search needs)
+    (λ c κs. let l = c .before .before .before .before .before .before .before in l .loop .inv .ready) (λ c. search needs) (λ c κs. search needs)
     add-count (λ c. search needs) loop-again (λ c. search needs) (λ c. search needs) (λ c. search needs) (λ c. search needs) (λ c. search needs) returns
     (λ c. search needs) (λ c. search needs) (λ c. search needs) (λ c. search needs) returns-2)

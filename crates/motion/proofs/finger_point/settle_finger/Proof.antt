@@ -1,29 +1,36 @@
 -- `settle_finger` meets its contract: the point at p lies at index p − 1.
-use mathlib.Core.Path.{_≡_, sym, _∙_, ap, ap₂}
+use mathlib.Core.Path.{_≡_, sym, _∙_, ap, ap₂, subst}
 use mathlib.Core.Bool.{cond}
-use mathlib.Core.List.{[], _∷_}
-use Prim.Native.Nat.{ℕ, suc, _-_}
-use borrow.Author.Needs.{needs, sfits-of}
-use lib.Dec.{T, eqb}
+use Prim.Native.Nat.{ℕ, suc, _-_, _<_}
+use native.Mathlib.Omega.{arith}
+use borrow.Author.Needs.{needs}
+use lib.Dec.{eqb}
+use lib.ListN.{getD}
+use lib.Signed.{_≤ℤ_}
 use lib.IntN.{ℤ, pos, _+ℤ_, _-ℤ_, _*ℤ_}
 use mir.Syntax.{w32, w64}
-use mir.Val.{toZ, ofZ}
+use mir.Val.{SFits, toZ, ofZ}
 use mir.Facts.{toZ-ofZ}
+use Rattle.integers.specs.Order.{nonneg}
 use Rattle.integers.specs.Size as Size
 use Rattle.model.specs.Ranges.{displacementOk, contactOk}
-use Rattle.model.specs.Setup.{p, e}
+use Rattle.model.specs.Gradient.{gradient}
+use Rattle.model.specs.Setup.{K, p, e, points}
 use Rattle.model.specs.Differences.{at}
-use Rattle.model.specs.State.{State, Neck, Forces, PointsAndFinger}
-use Rattle.model.specs.Step.{rightSide, clear, gradients}
+use Rattle.model.specs.State.{State, Forces, PointsAndFinger}
+use Rattle.model.specs.Step.{rightSide}
 use Rattle.model.specs.declared.Finger.{Finger}
 use Rattle.model.specs.declared.Setup.{Setup}
-use Rattle.laws.specs.Gradient.{gradient-size}
+use Rattle.laws.specs.Clearing.{kept-ok}
+use Rattle.laws.specs.Gradient.{gradient-size, gradient-nonneg}
 use Rattle.laws.specs.LastMoves.{freeAt, pairAt}
 use Rattle.laws.specs.Sizes.{inside-within}
-use Rattle.contact.specs.declared.contacts.Contact.{Contact}
-use Rattle.motion.specs.MoveRanges.{PointRanges}
-use Rattle.motion.specs.FingerPoint.{lastWorked, worked-last, worked-sizes, worked-change, StepRanges, contact-size, own-size, pair, pair-ranges}
-use Rattle.motion.specs.InRange.{facts, finger-place, finger-point, force-ok}
+use Rattle.contact.specs.Contacts.{keptContacts, gradientsIn, fingerDepth, keptFinger}
+use Rattle.contact.specs.declared.finger.Contact.{Contact}
+use Rattle.motion.specs.MoveRanges.{PointRanges, FingerRanges}
+use Rattle.motion.specs.FingerPoint.{lastWorked, worked-last, worked-sizes, worked-change, StepRanges, pair-ranges}
+use Rattle.motion.specs.Pair.{Pair}
+use Rattle.motion.specs.InRange.{facts, most-points, finger-place, finger-point, kept-size, gradient-in, force-ok}
 use Rattle.motion.specs.declared.finger_pair.WorkedPair.{WorkedPair}
 use Rattle.motion.proofs.finger_point.settle_finger.Statement.{statement}
 use Rattle.motion.proofs.finger_point.settle_finger.Tie as tie
@@ -32,27 +39,37 @@ module _ (a : tie.Start) where
   abbrev s : Setup
   s = a .args .setup
 
-  abbrev neck : Neck
-  neck = record { heights = a .args .heights .now; stiffness = a .args .stiffness .now }
-
-  abbrev x : State
-  x = record { newer = a .args .newer .now; older = a .args .older .now; contact = a .args .contact .now; finger = a .args .finger }
-
   abbrev F : Forces
   F = record { pluck = a .args .pluck; finger = a .args .force }
 
   -- the state after clearing, and its gradients
   abbrev y : State
-  y = clear s neck x
+  y = record { newer = a .args .newer .now; older = a .args .older .now; contact = keptContacts (a .args .heights .now) (a .args .newer .now) (a .args .contact .now); finger = keptFinger s (a .args .newer .now) (a .args .finger) }
 
   abbrev G : PointsAndFinger
-  G = gradients s neck x
+  G = record { points = gradientsIn (points s) (a .args .gradients .now); finger = gradient (K s) (fingerDepth s (a .args .newer .now) (a .args .finger)) }
 
-  given : StepRanges s neck x F
-  given = record { points = a .pre .1; finger = a .pre .3; force = a .pre .4 }
+  ranges : PointRanges s (a .args .heights .now) (a .args .newer .now) (a .args .older .now) (a .args .contact .now) (G .points) (F .pluck)
+  ranges = a .pre .0
 
-  ranges : PointRanges s (a .args .heights .now) (a .args .stiffness .now) (x .newer) (x .older) (x .contact) (F .pluck)
-  ranges = a .pre .1
+  -- the finger after clearing
+  held : FingerRanges (y .finger)
+  held = let finger = a .pre .2 in record { newer = finger .newer; older = finger .older; contact = kept-ok (fingerDepth s (a .args .newer .now) (a .args .finger)) (a .args .finger .contact) (finger .contact) }
+
+  given : StepRanges s y F
+  given = record { strings = ranges .strings; contact = kept-size ranges; finger = held; pluck = ranges .force; force = a .pre .3 }
+
+  own-at : at (G .points) (p s) ≡ pos (getD (a .args .gradients .now) (p s - 1) 0)
+  own-at = ap (at (G .points)) (sym (finger-place (ranges .strings))) ∙ gradient-in (a .args .gradients .now) (p s - 1) (finger-point (ranges .strings))
+
+  own-fits : SFits w64 (pos (getD (a .args .gradients .now) (p s - 1) 0))
+  own-fits = subst (SFits w64) own-at (Size.fits (ranges .gradients (p s)) tt)
+
+  in-array : p s - 1 < 127
+  in-array = let l = finger-point (ranges .strings) in let m = most-points (ranges .strings) in omega arith
+
+  pair : Pair (pairAt s y F G)
+  pair = record { own = (ranges .gradients (p s), subst (λ g. pos 0 ≤ℤ g) (sym own-at) (nonneg (getD (a .args .gradients .now) (p s - 1) 0))); gradient = (gradient-size _ _, gradient-nonneg _ _) }
 
   -- c of the point without its contact, and its contact variable
   abbrev b : ℤ
@@ -64,12 +81,11 @@ module _ (a : tie.Start) where
   abbrev settled : WorkedPair
   settled = lastWorked s b ψ (y .finger) (F .finger) (pairAt s y F G)
 
-point-contact-requires : tie.Need-point-contact-requires
-point-contact-requires c κs =
-    let a = c .before .before in
-    let r = ranges a in
+kept-at-requires : tie.Need-kept-at-requires
+kept-at-requires c κs =
+    let r = ranges (c .before .before) in
     let n = r .strings .newer-length in
-    (a .pre .0, r .heights-length ∙ sym n, r .stiffness-length ∙ sym n, r .contact-length ∙ sym n, rw n (finger-point (r .strings)), r .heights, r .strings .newer)
+    (r .heights-length ∙ sym n, r .contact-length ∙ sym n, rw n (finger-point (r .strings)))
 
 -- the pluck force at p
 module _ (c : tie.After-force-at) where
@@ -83,15 +99,12 @@ module _ (c : tie.After-force-at) where
 free-side-requires : tie.Need-free-side-requires
 free-side-requires c κs =
     let a = forced c in
-    (ranges a .strings, a .pre .2, rw (force-is c) (force-ok (F a .pluck) (eqb (suc (p (s a) - 1)) (e (s a))) (ranges a .force)), finger-point (ranges a .strings))
+    (ranges a .strings, a .pre .1, rw (force-is c) (force-ok (F a .pluck) (eqb (suc (p (s a) - 1)) (e (s a))) (ranges a .force)), finger-point (ranges a .strings))
 
 -- what `settle_pair` is given, read from its bits
-module _ (d : tie.After-struct-told5) where
+module _ (d : tie.After-struct-told3) where
   abbrev free : tie.After-free-side
-  free = d .before .before .before .before .before
-
-  abbrev own : Contact
-  own = free .before .before .before .point-contact .result
+  free = d .before .before .before
 
   abbrev finger : Contact
   finger = free .before .before .finger-contact .result
@@ -103,36 +116,32 @@ module _ (d : tie.After-struct-told5) where
   place = finger-place (ranges k .strings)
 
   side-is : toZ w64 (ofZ w64 (free .free-side .result)) ≡ b k
-  unfolding clear
   side-is = toZ-ofZ (record { sfits = free .free-side .ok }) ∙ free .free-side .ensures
-      ∙ ap₂ (λ f (i : ℕ). rightSide (s k) (x k .newer) (x k .older) (pos 0) (pos 0) f i) (force-is (free .before) ∙ ap (λ (i : ℕ). cond (eqb i (e (s k))) (F k .pluck) (pos 0)) place) place
+      ∙ ap₂ (λ f (i : ℕ). rightSide (s k) (y k .newer) (y k .older) (pos 0) (pos 0) f i) (force-is (free .before) ∙ ap (λ (i : ℕ). cond (eqb i (e (s k))) (F k .pluck) (pos 0)) place) place
 
-  own-is : toZ w64 (ofZ w64 (own .gradient)) ≡ at (G k .points) (p (s k))
-  unfolding gradients
-  own-is = ap (λ r. toZ w64 (ofZ w64 (r .gradient))) (free .before .before .before .point-contact .ensures) ∙ ap (λ (i : ℕ). toZ w64 (ofZ w64 (at (G k .points) i))) place ∙ toZ-ofZ (Size.fits (own-size (given k)) tt)
+  own-is : toZ w64 (ofZ w64 (pos (getD (k .args .gradients .now) (p (s k) - 1) 0))) ≡ at (G k .points) (p (s k))
+  own-is = toZ-ofZ (own-fits k) ∙ sym (own-at k)
 
-  variable-is : toZ w32 (ofZ w32 (own .variable)) ≡ ψ k
-  unfolding clear
-  variable-is = ap (λ r. toZ w32 (ofZ w32 (r .variable))) (free .before .before .before .point-contact .ensures) ∙ ap (λ (i : ℕ). toZ w32 (ofZ w32 (at (y k .contact) i))) place ∙ toZ-ofZ (Size.fits (contact-size (given k)) tt)
+  variable-is : toZ w32 (ofZ w32 (free .before .before .before .kept-at .result)) ≡ ψ k
+  variable-is = toZ-ofZ (record { sfits = free .before .before .before .kept-at .ok }) ∙ free .before .before .before .kept-at .ensures ∙ ap (at (y k .contact)) place
 
   gradient-is : toZ w64 (ofZ w64 (finger .gradient)) ≡ G k .finger
-  unfolding gradients
   gradient-is = ap (λ r. toZ w64 (ofZ w64 (r .gradient))) (free .before .before .finger-contact .ensures) ∙ toZ-ofZ (Size.fits (gradient-size _ _) tt)
 
   -- the finger after clearing
-  finger-is : _≡_ {A = Finger} (record { newer = toZ w32 (ofZ w32 (x k .finger .newer)); older = toZ w32 (ofZ w32 (x k .finger .older)); contact = toZ w32 (ofZ w32 (finger .variable)) }) (y k .finger)
-  unfolding clear displacementOk contactOk
+  finger-is : _≡_ {A = Finger} (record { newer = toZ w32 (ofZ w32 (y k .finger .newer)); older = toZ w32 (ofZ w32 (y k .finger .older)); contact = toZ w32 (ofZ w32 (finger .variable)) }) (y k .finger)
+  unfolding displacementOk contactOk
   finger-is = λ i. record {
-    newer = toZ-ofZ {w = w32} (Size.fits (inside-within 1048576 (x k .finger .newer) (k .pre .3 .newer)) tt) i;
-    older = toZ-ofZ {w = w32} (Size.fits (inside-within 1048576 (x k .finger .older) (k .pre .3 .older)) tt) i;
-    contact = (ap (λ r. toZ w32 (ofZ w32 (r .variable))) (free .before .before .finger-contact .ensures) ∙ toZ-ofZ (Size.fits (inside-within 67108864 (y k .finger .contact) (pair-ranges (given k) .held .contact)) tt)) i;
+    newer = toZ-ofZ {w = w32} (Size.fits (inside-within 1048576 (y k .finger .newer) (held k .newer)) tt) i;
+    older = toZ-ofZ {w = w32} (Size.fits (inside-within 1048576 (y k .finger .older) (held k .older)) tt) i;
+    contact = (ap (λ r. toZ w32 (ofZ w32 (r .variable))) (free .before .before .finger-contact .ensures) ∙ toZ-ofZ (Size.fits (inside-within 67108864 (y k .finger .contact) (held k .contact)) tt)) i;
   }
 
   force-read : toZ w32 (ofZ w32 (F k .finger)) ≡ F k .finger
   force-read = toZ-ofZ (k .fits .force)
 
 settle-pair-requires : tie.Need-settle-pair-requires
-settle-pair-requires d κs = rw (side-is d, variable-is d, finger-is d, force-read d, own-is d, gradient-is d) (pair-ranges (given (k d)), pair (given (k d)))
+settle-pair-requires d κs = rw (side-is d, variable-is d, finger-is d, force-read d, own-is d, gradient-is d) (pair-ranges (given (k d)) (G (k d)), pair (k d))
 
 -- the last gradients and moves
 worked-is : (c : tie.After-settle-pair) → (c .settle-pair .result ≡ settled (k (c .before)))
@@ -143,18 +152,16 @@ worked-is c =
     (rw (side-is d, variable-is d, finger-is d, force-read d, own-is d, gradient-is d) at (c .settle-pair .ensures))
 
 next-at-finger-requires : tie.Need-next-at-finger-requires
-next-at-finger-requires e κs =
-    let c = e .before in
+next-at-finger-requires c κs =
     let d = c .before in
     let a = k d in
-    rw (worked-is c, variable-is d) (worked-sizes (s a) (b a) (ψ a) (y a .finger) (F a .finger) (pairAt (s a) (y a) (F a) (G a)) (pair-ranges (given a)) (pair (given a)), worked-change (s a) (b a) (ψ a) (y a .finger) (F a .finger) (pairAt (s a) (y a) (F a) (G a)) (pair-ranges (given a)) (pair (given a)))
+    rw (worked-is c, variable-is d) (worked-sizes (s a) (b a) (ψ a) (y a .finger) (F a .finger) (pairAt (s a) (y a) (F a) (G a)) (pair-ranges (given a) (G a)) (pair a), worked-change (s a) (b a) (ψ a) (y a .finger) (F a .finger) (pairAt (s a) (y a) (F a) (G a)) (pair-ranges (given a) (G a)) (pair a))
 
 returns : tie.Need-returns
-unfolding clear
-returns e =
-    let c = e .before .before in
+returns r =
+    let c = r .before in
     let d = c .before in
-    e .next-at-finger .ensures ∙ (λ i. record {
+    r .next-at-finger .ensures ∙ (λ i. record {
       delta = worked-is c i .delta;
       contact = variable-is d i -ℤ worked-is c i .own *ℤ worked-is c i .delta;
       height = finger-is d i .older +ℤ worked-is c i .«finger_delta»;
@@ -166,12 +173,15 @@ settle-finger-spec =
     tie.close
     (tie.spec
     (λ c. search needs)
+    (λ c. facts (ranges (c .before) .strings) .first)
+    (λ c. in-array (c .before))
     (λ c. facts (ranges (c .before .before) .strings) .first)
-    point-contact-requires
-    (λ c κs. search needs)
+    kept-at-requires
+    (λ c κs. let a = c .before .before .before in let r = ranges a .strings in (r .setup, r .newer-length, r .newer, a .pre .2 .newer))
     (λ c κs. search needs)
     (λ c. facts (ranges (forced c) .strings) .first)
     free-side-requires
+    (λ c. own-fits (forced (c .before .before .before)))
     settle-pair-requires
     next-at-finger-requires
     returns)

@@ -44,7 +44,7 @@ module _ (k : tie.Start) where
   result = Steps.advance (k .args .turn) (given .s) (given .neck) (given .x) (given .F)
 
   ready : Ready (given .s) (given .neck) (given .x)
-  ready = k .pre .1
+  ready = k .pre
 
   at-top : After 0
   at-top = reached-top
@@ -85,7 +85,7 @@ work-out-requires : tie.Need-work-out-requires
 work-out-requires c κs =
     let e = c .before .before .before .before in
     let k = call-1 e in
-    rw (toZ-ofZ (k .fits .pluck), toZ-ofZ (k .fits .force)) (k .pre .0, passed e, refl, refl)
+    rw (toZ-ofZ (k .fits .pluck), toZ-ofZ (k .fits .force)) (passed e, refl, refl)
 
 -- the next state as it was worked out
 module _ (w : tie.After-work-out) where
@@ -96,9 +96,9 @@ module _ (w : tie.After-work-out) where
   k = call-1 e
 
   next-is : _≡_ {A = State} (record {
-    newer = take (points (given k .s)) (w .work-out .last .1 .1 .1 .1 .1 .1 .1 .1 .1 .1 .0);
+    newer = take (points (given k .s)) (w .work-out .last .1 .1 .1 .1 .1 .1 .1 .1 .1 .0);
     older = given k .x .newer;
-    contact = take (points (given k .s)) (w .work-out .last .1 .1 .1 .1 .1 .1 .1 .1 .1 .1 .1 .0);
+    contact = take (points (given k .s)) (w .work-out .last .1 .1 .1 .1 .1 .1 .1 .1 .1 .1 .0);
     finger = record { newer = w .work-out .result .height; older = given k .x .finger .newer; contact = w .work-out .result .contact };
   }) (y k)
   next-is = w .work-out .ensures .2 ∙ ap (λ F. nextState (workedStep (given k .s) (given k .neck) (given k .x) F)) (forces-read (k .fits .pluck) (k .fits .force))

@@ -14,19 +14,19 @@ module _ (k : tie.Start) where
   given = givenBy (k .args .setup) (k .args .heights .now) (k .args .stiffness .now) (lentWith (k .args .turn) (k .args .finger) (k .args .first .now) (k .args .second .now) (k .args .contact .now)) (k .args .pluck) (k .args .force)
 
   ready : Ready (given .s) (given .neck) (stateOf (given .x))
-  ready = k .pre .1
+  ready = k .pre
 
 advance-requires : tie.Need-advance-requires
 advance-requires c κs =
     let branch = c .before .before .before in
     let k = branch .before .before in
-    (k .pre .0, ready-first (given k .s) (given k .neck) (given k .x) (given k .F) (ready k) (branch .if1 .taken))
+    ready-first (given k .s) (given k .neck) (given k .x) (given k .F) (ready k) (branch .if1 .taken)
 
 advance-requires-2 : tie.Need-advance-requires-2
 advance-requires-2 c κs =
     let branch = c .before .before .before in
     let k = branch .before .before in
-    (k .pre .0, ready-second (given k .s) (given k .neck) (given k .x) (given k .F) (ready k) (branch .if1 .left))
+    ready-second (given k .s) (given k .neck) (given k .x) (given k .F) (ready k) (branch .if1 .left)
 
 returns : tie.Need-returns
 returns c =

@@ -1,2 +1,0 @@
--- What the proof of `root_table` uses.
-mod Table
