@@ -1,7 +1,7 @@
 /* The same scheme in double precision, as a C programmer would write it who leaves the checks out: strings, contact variables and finger are doubles, moves
-   are real quotients, and the gradient is a square root instead of the table. It leaves out
+   are real quotients, and the gradient is a square root. It leaves out
    - every refusal: no setup, length, height, state, force or result is examined, and the new string is written as soon as it is known;
-   - every rounding: of the moves, of the table's place q and of its entry.
+   - every rounding: of the moves, of the number q and of its root.
    So it agrees with the whole-number voices nearly and not in every bit. The loops are short, so that -O3 can take two points at a time. It is built at two
    levels of optimisation, under the names DOUBLE_STEP and DOUBLE_BLOCK. */
 #include <math.h>

@@ -1,8 +1,8 @@
 -- The pressed points, as a list of their indices, and the numbers and gradients of points by index.
-use mathlib.Core.Path.{_≡_, sym, _∙_, subst}
+use mathlib.Core.Path.{_≡_, refl, sym, _∙_, subst}
 use mathlib.Core.List.{List}
 use mathlib.Core.Logic.{⊎-elim}
-use Prim.Native.Nat.{ℕ, _+_, _≤_, _<_, zero-le}
+use Prim.Native.Nat.{ℕ, suc, _+_, _≤_, _<_, zero-le}
 use native.Mathlib.Nat.{not-suc-le-zero}
 use native.Mathlib.Omega.{arith}
 use borrow.Author.Count.{below-more}
@@ -12,9 +12,22 @@ use lib.Seq.{getD-set-same, getD-set-other}
 use lib.Signed.{_≤ℤ_, _<ℤ_, leZ, clashℤ}
 use Rattle.integers.specs.Order.{<-or-≤}
 use Rattle.integers.specs.Tests.{le-leZ, lt-leZ}
+use Rattle.model.specs.Differences.{minus}
 use Rattle.model.specs.Gradient.{root, gradient}
 use Rattle.laws.specs.LastMoves.{depth-above, depth-below}
+use Rattle.laws.specs.Strings.{_spans_, at-minus, spans-minus}
 use Rattle.contact.specs.Contacts.{rootNumber}
+
+-- the depth of the string u at the point of this index, as the list of depths has it
+abbrev pub depthAt : (h u : List ℤ) → ℕ → ℤ
+depthAt h u i = getD h i (pos 0) -ℤ getD u i (pos 0)
+
+module _ (h u : List ℤ) (e : length h ≡ length u) where
+  pub depths-span : minus h u spans length u
+  depths-span = spans-minus (record { long = e }) (record { long = refl })
+
+  pub depth-at : (i : ℕ) → getD (minus h u) i (pos 0) ≡ depthAt h u i
+  depth-at i = at-minus (record { long = e }) (record { long = refl }) (suc i)
 
 -- the string u lies below the height h of the neck at the point of this index
 abbrev pub Pressed : (h u : List ℤ) → ℕ → Type 0
@@ -85,10 +98,7 @@ module _ {h u : List ℤ} where
           (λ p. clashℤ p q);
     }
 
--- ---- the depth of the string u at the point of this index, and over stiffnesses k its number q and its gradient
-
-abbrev pub depthAt : (h u : List ℤ) → ℕ → ℤ
-depthAt h u i = getD h i (pos 0) -ℤ getD u i (pos 0)
+-- ---- over stiffnesses k, the number q of the point of this index, and its gradient
 
 abbrev pub numberAt : (k : List ℕ) (h u : List ℤ) → ℕ → ℕ
 numberAt k h u i = rootNumber (getD k i 0) (depthAt h u i)

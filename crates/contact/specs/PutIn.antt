@@ -21,9 +21,9 @@ use Rattle.model.specs.Ranges.{all}
 use Rattle.laws.specs.Gradient.{gradient-is, gradient-nonneg}
 use Rattle.laws.specs.LastMoves.{depth-above, depth-below}
 use Rattle.laws.specs.Refusals.{all-entry}
-use Rattle.laws.specs.Strings.{_spans_, at-minus, spans-minus, length-zip}
+use Rattle.laws.specs.Strings.{length-zip}
 use Rattle.contact.specs.Contacts.{gradientsAt, gradientsIn}
-use Rattle.contact.specs.Pressed.{Listed, depthAt, numberAt, gradientAt, gradient-pressed}
+use Rattle.contact.specs.Pressed.{Listed, depthAt, depths-span, depth-at, numberAt, gradientAt, gradient-pressed}
 
 -- what is not negative is its size
 size-nonneg : (g : ℤ) → pos 0 ≤ℤ g → pos (natAbs g) ≡ g
@@ -76,27 +76,21 @@ module _ (k : List ℕ) (h u : List ℤ) where
   root-listed l j b = sym (ap natAbs (gradient-pressed _ _ (depth-above (l .pressed j b))))
 
   module _ (heights : length h ≡ length u) (stiffness : length k ≡ length u) where
-    heights-span : h spans length u
-    heights-span = record { long = heights }
-
-    string-spans : u spans length u
-    string-spans = record { long = refl }
-
-    depths-span : minus h u spans length u
-    depths-span = spans-minus heights-span string-spans
+    depths-long : length (minus h u) ≡ length u
+    depths-long = depths-span h u heights .long
 
     -- an array that holds the gradient of each point
     module _ (gs : List ℕ) (each : (i : ℕ) → i < length u → pos (getD gs i 0) ≡ gradient (getD k i 0) (depthAt h u i)) where
       gradients-are : gradientsIn (length u) gs ≡ gradientsAt k h u
       gradients-are = ext-getD (pos 0) (gradientsIn (length u) gs) (gradientsAt k h u)
-          (length-tabulate (length u) (λ i. pos (getD gs i 0)) ∙ sym (length-zip gradient k (minus h u) (stiffness ∙ sym (depths-span .long)) ∙ stiffness))
+          (length-tabulate (length u) (λ i. pos (getD gs i 0)) ∙ sym (length-zip gradient k (minus h u) (stiffness ∙ sym depths-long) ∙ stiffness))
           (λ i l. let b : i < length u = rw (length-tabulate (length u) (λ i. pos (getD gs i 0))) at l in
           getD-tabulate (length u) (λ i. pos (getD gs i 0)) (pos 0) i b ∙ each i b
-          ∙ sym (entry-gradient k (minus h u) i (omega arith) (let s = depths-span .long in omega arith) ∙ ap (gradient (getD k i 0)) (at-minus heights-span string-spans (suc i))))
+          ∙ sym (entry-gradient k (minus h u) i (omega arith) (let s = depths-long in omega arith) ∙ ap (gradient (getD k i 0)) (depth-at h u heights i)))
 
     -- where no point is pressed they are all 0
     pub none-put : T (all (λ d. leZ d (pos 0)) (minus h u)) → gradientsIn (length u) (replicate 127 0) ≡ gradientsAt k h u
-    none-put t = gradients-are (replicate 127 0) (λ i l. ap pos (getD-replicate 127 0 i) ∙ sym (gradient-is _ _ .free (leZ-yes (subst (λ d. T (leZ d (pos 0))) (at-minus heights-span string-spans (suc i)) (all-entry (λ d. leZ d (pos 0)) (minus h u) (pos 0) t i (let s = depths-span .long in omega arith))))))
+    none-put t = gradients-are (replicate 127 0) (λ i l. ap pos (getD-replicate 127 0 i) ∙ sym (gradient-is _ _ .free (leZ-yes (subst (λ d. T (leZ d (pos 0))) (depth-at h u heights i) (all-entry (λ d. leZ d (pos 0)) (minus h u) (pos 0) t i (let s = depths-long in omega arith))))))
 
     -- after the last listed point
     pub all-put : {list : List ℕ} {count : ℕ} {gs : List ℕ} → Listed h u (length u) list count → PutIn list count gs → gradientsIn (length u) gs ≡ gradientsAt k h u

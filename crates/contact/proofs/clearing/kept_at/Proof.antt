@@ -4,14 +4,15 @@ use mathlib.Core.List.{List}
 use Prim.Native.Nat.{suc}
 use borrow.Author.Needs.{needs, sfits-of}
 use lib.IntN.{ℤ, pos, _-ℤ_}
-use lib.ListN.{length, getD}
+use lib.ListN.{getD}
 use mir.Syntax.{w32}
 use mir.Val.{toZ, ofZ}
 use mir.Facts.{toZ-ofZ}
 use Rattle.model.specs.Differences.{at}
 use Rattle.model.specs.Step.{kept}
-use Rattle.laws.specs.Strings.{_spans_, at-minus, spans-minus, at-zip}
+use Rattle.laws.specs.Strings.{at-zip}
 use Rattle.contact.specs.Contacts.{keptContacts}
+use Rattle.contact.specs.Pressed.{depths-span, depth-at}
 use Rattle.contact.proofs.clearing.kept_at.Statement.{statement}
 use Rattle.contact.proofs.clearing.kept_at.Tie as tie
 
@@ -25,15 +26,9 @@ module _ (a : tie.Start) where
   abbrev variable : ℤ
   variable = getD (a .args .contact .now) (a .args .i) (pos 0)
 
-  heights-span : heights spans length newer
-  heights-span = record { long = a .pre .0 }
-
-  newer-spans : newer spans length newer
-  newer-spans = record { long = refl }
-
   kept-is : at (keptContacts heights newer (a .args .contact .now)) (suc (a .args .i)) ≡ kept (getD heights (a .args .i) (pos 0) -ℤ getD newer (a .args .i) (pos 0)) variable
   unfolding kept
-  kept-is = at-zip kept refl (spans-minus heights-span newer-spans) (record { long = a .pre .1 }) (suc (a .args .i)) ∙ ap (λ d. kept d variable) (at-minus heights-span newer-spans (suc (a .args .i)))
+  kept-is = at-zip kept refl (depths-span heights newer (a .pre .0)) (record { long = a .pre .1 }) (suc (a .args .i)) ∙ ap (λ d. kept d variable) (depth-at heights newer (a .pre .0) (a .args .i))
 
 -- the numbers at the point, read from their bits
 module _ (d : tie.After-contact-kept-arg3) where

@@ -2,7 +2,7 @@
 use mathlib.Core.Path.{_≡_, refl, sym, _∙_, ap, ap₂}
 use mathlib.Core.Bool.{Bool, _&&_, and-assoc, and-true}
 use mathlib.Core.List.{List}
-use Prim.Native.Nat.{ℕ, suc, _+_, _-_, _≤_, _<_}
+use Prim.Native.Nat.{ℕ, _+_, _-_, _≤_, _<_}
 use native.Mathlib.Numerals.{add-one}
 use native.Mathlib.Omega.{arith}
 use borrow.Author.Needs.{needs, sfits-of}
@@ -16,8 +16,7 @@ use mir.Facts.{toZ-ofZ}
 use Rattle.integers.specs.Scan.{Scanned, more, over}
 use Rattle.model.specs.Differences.{minus}
 use Rattle.model.specs.Ranges.{all}
-use Rattle.laws.specs.Strings.{_spans_, at-minus, spans-minus}
-use Rattle.contact.specs.Pressed.{depth-test}
+use Rattle.contact.specs.Pressed.{depths-span, depth-at, depth-test}
 use Rattle.contact.proofs.pressed.none_pressed.Statement.{statement}
 use Rattle.contact.proofs.pressed.none_pressed.Tie as tie
 
@@ -37,18 +36,12 @@ module _ (a : tie.Start Inv-loop μ-loop) where
   abbrev newer : List ℤ
   newer = a .args .newer .now
 
-  heights-span : heights spans length newer
-  heights-span = record { long = a .pre }
-
-  newer-spans : newer spans length newer
-  newer-spans = record { long = refl }
-
-  depths-span : minus heights newer spans length newer
-  depths-span = spans-minus heights-span newer-spans
+  depths-long : length (minus heights newer) ≡ length newer
+  depths-long = depths-span heights newer (a .pre) .long
 
   -- the test of what is left, by its first point
   next : (i : ℕ) → i < length newer → all free (drop i (minus heights newer)) ≡ (leZ (getD heights i (pos 0)) (getD newer i (pos 0)) && all free (drop (i + 1) (minus heights newer)))
-  next i h = rw (add-one, drop-cons (minus heights newer) i (pos 0) (let e = depths-span .long in omega arith), at-minus heights-span newer-spans (suc i), depth-test (getD heights i (pos 0)) (getD newer i (pos 0)))
+  next i h = rw (add-one, drop-cons (minus heights newer) i (pos 0) (let e = depths-long in omega arith), depth-at heights newer (a .pre) i, depth-test (getD heights i (pos 0)) (getD newer i (pos 0)))
 
 -- the numbers at a point, read from their bits
 module _ (c : tie.After-none2 Inv-loop μ-loop) where
@@ -74,7 +67,7 @@ loop-again c =
 returns : tie.Need-returns Inv-loop μ-loop
 returns c =
     let a = c .before .before in
-    let past : length (minus (heights a) (newer a)) ≤ c .before .loop .i = let e = depths-span a .long in omega (arith, c .loop-test .left) in
+    let past : length (minus (heights a) (newer a)) ≤ c .before .loop .i = let e = depths-long a in omega (arith, c .loop-test .left) in
     over (c .before .loop .inv) (and-true _) (rw (drop-of-length-le (minus (heights a) (newer a)) past))
 
 pub none-pressed-spec : {M : Type 1} → statement M
