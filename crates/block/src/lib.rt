@@ -9,11 +9,11 @@ ghost use Rattle.model.specs.Answers.{blockResult};
 ghost use Rattle.model.specs.Block.{countsWrong, blockRules, block};
 ghost use Rattle.model.specs.Refusal.{firstOf};
 use crate::play::play;
+use examination::arguments::buffers_refusal;
+use examination::arguments::state_refusal;
 use model::BlockAnswer;
 use model::Finger;
 use model::Setup;
-use step::arguments::buffers_refusal;
-use step::arguments::state_refusal;
 
 // 15: an odd number of forces, or fewer samples than forces.
 fn counts_wrong(forces: usize, samples: usize) -> bool

@@ -1,9 +1,7 @@
--- What the contracts cite beside the model and the laws: the weighted string, how an array holds a string, the ranges of what the moves are worked out from, a
--- working of the finger's system, and what a step comes to at p. Then what these ranges give the code, D1 of the weighted string, and the front of an array.
+-- What the contracts cite beside the model and the laws: the weighted string, how an array holds a string, and the ranges of what the moves are worked out from.
+-- Then what these ranges give the code, D1 of the weighted string, and the front of an array.
 pub mod Weighted
 pub mod MoveRanges
-pub mod Pair
 pub mod InRange
-pub mod FingerPoint
 pub mod Linear
 pub mod Front

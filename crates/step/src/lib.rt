@@ -1,18 +1,16 @@
-// 01, 'One step': a step, whose arguments are all examined, in the order of its table of refusals. `arguments` are those that a step and a block examine alike,
-// `turn` puts the two strings in order, and `advance` makes the step: 12 of `rows`, `work_out`, and the `outcome` with 13 and 14.
+// 01, 'One step': a step, whose arguments are all examined, in the order of its table of refusals. `turn` puts the two strings in order, and `advance` makes the
+// step: 12, `work_out`, and the `outcome` with 13 and 14.
 pub mod advance;
-pub mod arguments;
 pub mod outcome;
-pub mod rows;
 pub mod turn;
 pub mod work_out;
 
 ghost use mathlib.Core.Path.{_≡_};
 ghost use Rattle.model.specs.Answers.{stepResult};
 ghost use Rattle.model.specs.Step as Steps;
-use crate::arguments::buffers_refusal;
-use crate::arguments::state_refusal;
 use crate::turn::step_ready;
+use examination::arguments::buffers_refusal;
+use examination::arguments::state_refusal;
 use model::Finger;
 use model::Setup;
 use model::StepAnswer;

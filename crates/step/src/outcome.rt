@@ -5,15 +5,15 @@ ghost use Rattle.model.specs.Setup.{points, setupRules};
 ghost use Rattle.promises.specs.Promises.{Passed};
 ghost use Rattle.laws.specs.Advance.{advancedResult};
 ghost use Rattle.step.specs.Outcome as Outcomes;
-use crate::rows::new_contact_variables_ok;
-use crate::rows::new_string_ok;
+use examination::rows::new_contact_variables_ok;
+use examination::rows::new_string_ok;
+use finger_motion::next::NewFinger;
+use finger_motion::next::next_finger;
 use model::Setup;
 use model::StepAnswer;
 use model::Stepped;
 use model::bounds::MOST_POINTS;
 use motion::next::write;
-use motion::next_finger::NewFinger;
-use motion::next_finger::next_finger;
 use samples::frame::pickup_frame;
 
 // Writes the new string over the older one, and the new contact variables, and answers with the turn that it is given; or answers 13 or 14

@@ -5,12 +5,12 @@ ghost use Rattle.model.specs.Setup.{points};
 ghost use Rattle.model.specs.Step.{callRules, workedStep, nextState};
 ghost use Rattle.promises.specs.Promises.{Passed};
 use contact::gradients::point_gradients;
+use finger_motion::next::NewFinger;
+use finger_motion::point::settle_finger;
 use model::Finger;
 use model::Setup;
 use model::bounds::MOST_POINTS;
-use motion::finger_point::settle_finger;
 use motion::next::next_string;
-use motion::next_finger::NewFinger;
 use motion::points::settle_points;
 use motion::weighted::weighted;
 

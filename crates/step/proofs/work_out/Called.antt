@@ -24,10 +24,10 @@ use Rattle.laws.specs.LastMoves.{pairAt}
 use Rattle.laws.specs.Pulling.{zip-each}
 use Rattle.laws.specs.Refusals.{fails, passed-append, all-yes}
 use Rattle.contact.specs.Contacts.{gradientsAt}
-use Rattle.motion.specs.FingerPoint.{StepRanges}
+use Rattle.finger_motion.specs.FingerPoint.{StepRanges}
 use Rattle.motion.specs.InRange.{contact-size}
 use Rattle.motion.specs.MoveRanges.{PointRanges}
-use Rattle.motion.specs.Pair.{Pair}
+use Rattle.finger_motion.specs.Pair.{Pair}
 use Rattle.motion.specs.Weighted.{StringRanges}
 
 pub record Called (s : Setup) (neck : Neck) (x : State) (F : Forces) : Type 0 where

@@ -24,7 +24,7 @@ use Rattle.laws.specs.MoveSizes.{moveSize}
 use Rattle.laws.specs.Sizes.{Bounded, bounded}
 use Rattle.laws.specs.Strings.{places-each}
 use Rattle.contact.specs.Contacts.{gradientsAt, gradientsIn}
-use Rattle.motion.specs.FingerPoint.{atFinger, at-finger-size, away-size}
+use Rattle.finger_motion.specs.FingerPoint.{atFinger, at-finger-size, away-size}
 use Rattle.motion.specs.InRange.{facts, most-points, finger-place, finger-point}
 use Rattle.motion.specs.MoveRanges.{PointRanges}
 use Rattle.motion.specs.Weighted.{StringRanges}
