@@ -20,6 +20,8 @@ static volatile uint32_t refusal;
 
 static void nothing(void) {}
 static void check_setup(void) { refusal = sv_check_setup(setup); }
+static void bend(void) { refusal = sv_bend(setup, 2500).refusal; }
+static void slide(void) { refusal = sv_slide(setup, 44).refusal; }
 static void lay_neck(void) { refusal = sv_lay_neck(setup, board, POINTS, 3000, NULL, 0, 0, 0, heights, POINTS, stiffness, POINTS); }
 static void fresh_start(void) { refusal = sv_fresh_start(setup, first, POINTS, second, POINTS, contact, POINTS, 1000, 1000).refusal; }
 static void newest(void) { refusal = sv_newest(0) == 0 ? 0 : 1; }
@@ -56,8 +58,8 @@ int main(void)
     static const struct {
         const char *name;
         void (*call)(void);
-    } calls[] = {{"sv_check_setup", check_setup}, {"sv_lay_neck", lay_neck}, {"sv_fresh_start", fresh_start}, {"sv_newest", newest},
-                 {"sv_step", step}, {"sv_play_block", block}, {"sv_read_place", read_place}};
+    } calls[] = {{"sv_check_setup", check_setup}, {"sv_bend", bend}, {"sv_slide", slide}, {"sv_lay_neck", lay_neck}, {"sv_fresh_start", fresh_start},
+                 {"sv_newest", newest}, {"sv_step", step}, {"sv_play_block", block}, {"sv_read_place", read_place}};
     size_t none = used_by(nothing);
     printf("| function | stack, bytes |\n|---|---|\n");
     for (size_t i = 0; i < sizeof calls / sizeof *calls; i++) {

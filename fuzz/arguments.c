@@ -103,6 +103,18 @@ uint32_t draw_place(size_t points, unsigned changes)
     return last == 0 ? 0 : 1 + draw_size(last - 1);
 }
 
+/* Anything that stiffness and viscous loss leave room for, often as much as that, or next to the present tension; changed, at a boundary or beyond it. */
+uint32_t draw_tension(const sv_setup *s, unsigned changes)
+{
+    uint32_t room = 4096 - 4 * s->stiffness - 2 * s->viscous, beyond[] = {0, room + 1, room + 2, 4097, 0x80000000, 0xffffffff, (uint32_t)draw()};
+    if (changes & TENSION)
+        return beyond[draw_below(7)];
+    if (room < 1 || room > 4096)
+        return 1 + draw_size(4095);
+    uint32_t near = s->tension + (uint32_t)draw_between(-4, 4);
+    return one_in(2) && near >= 1 && near <= room ? near : 1 + draw_size(room - 1);
+}
+
 /* Puts one number out of its range. */
 static void put_outside(int32_t *numbers, size_t length, int32_t low, int32_t high)
 {
@@ -300,6 +312,8 @@ int32_t draw_force(const sv_setup *s, uint32_t greatest, unsigned changes)
     int64_t divisor = one_in(2) ? 4096 + (int64_t)s->plain : (int64_t)s->finger_mass;
     if (changes & FORCES)
         return draw_outside(-FORCE, FORCE);
+    if (greatest == 0)
+        return 0;
     switch (draw_below(4)) {
     case 0: return 0;
     case 1: return within(divisor * draw_between(-3, 3) / 2, FORCE);
@@ -354,7 +368,11 @@ void draw_forces(lent *forces, lent *samples, const sv_setup *setup, uint32_t mo
 void draw_start(int32_t *height, int32_t *older_height, unsigned changes)
 {
     *height = (int32_t)draw_size(DISPLACEMENT >> draw_below(21));
-    *older_height = one_in(2) ? *height : draw_either(DISPLACEMENT);
+    switch (draw_below(3)) {
+    case 0: *older_height = draw_either(DISPLACEMENT); break;
+    case 1: *older_height = within(*height + (int64_t)draw_below((uint32_t)*height + 64), DISPLACEMENT); break; /* coming down */
+    default: *older_height = *height;
+    }
     if (changes & STATE) {
         if (one_in(2))
             put_outside(height, 1, 0, DISPLACEMENT);

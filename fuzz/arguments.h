@@ -21,8 +21,9 @@ typedef struct {
 } neck_plan;
 
 /* What may be changed, as bits: a field of the setup, the length of a buffer, a board or neck height, the fret list, its tip height, a displacement,
-   finger height or contact variable, a force, the number of forces or samples, the place that is read. */
-enum { SETUP = 1, LENGTH = 2, HEIGHT = 4, FRETS = 8, TIP = 16, STATE = 32, FORCES = 64, COUNTS = 128, PLACE = 256, KINDS_OF_CHANGES = 9 };
+   finger height or contact variable, a force, the number of forces or samples, the place that is read or slid to, the tension of a bend. */
+enum { SETUP = 1, LENGTH = 2, HEIGHT = 4, FRETS = 8, TIP = 16, STATE = 32, FORCES = 64, COUNTS = 128, PLACE = 256, TENSION = 512,
+       KINDS_OF_CHANGES = 10 };
 unsigned draw_changes(unsigned possible); /* none in half of the draws, else one to three of them */
 
 /* Each of these draws what is in order but for the changes. `points` is what the lengths go by: N - 1 of an accepted setup, sometimes of a refused one. */
@@ -37,7 +38,8 @@ int32_t within(int64_t number, int32_t end); /* the number, or the end of its ra
 size_t draw_length(size_t points, unsigned changes);
 uint32_t draw_turn(void);
 uint32_t draw_place(size_t points, unsigned changes);
-int32_t draw_force(const sv_setup *setup, uint32_t greatest, unsigned changes); /* in order, it is no greater than that, but for ties */
+uint32_t draw_tension(const sv_setup *setup, unsigned changes); /* of a bend */
+int32_t draw_force(const sv_setup *setup, uint32_t greatest, unsigned changes); /* in order, it is no greater than that, but for ties; none at 0 */
 void draw_start(int32_t *height, int32_t *older_height, unsigned changes);    /* the finger's heights at a fresh start; changed by STATE */
 
 #endif

@@ -12,8 +12,8 @@ typedef struct {
     const made_step *step;
     const equations *e;
     int64_t moves[PLACES], finger_move;
-    int on_neck, at_limit;
-    wide rounding_work;
+    int at_limit;
+    wide rounding_work, rounding_limit;
 } account;
 
 static void open_account(account *a, const made_step *step, const equations *last)
@@ -30,6 +30,7 @@ static int book_residual(account *a, const char *equation, size_t i, int64_t res
 {
     int64_t twice = residual < 0 ? -2 * residual : 2 * residual;
     a->rounding_work += 2 * (wide)residual * move;
+    a->rounding_limit += (wide)limit * (move < 0 ? -move : move);
     a->at_limit |= twice == limit;
     if (twice > limit)
         snprintf(wrong, sizeof wrong, "the %s equation at place %zu has the residual %lld, and the limit of twice its size is %lld", equation, i,
@@ -49,11 +50,9 @@ static int book_finger(account *a)
 static int residuals_kept(account *a)
 {
     const equations *e = a->e;
-    for (size_t i = 1; i < e->N; i++) {
-        a->on_neck |= e->G[i] > 0;
+    for (size_t i = 1; i < e->N; i++)
         if (i == e->p ? !book_finger(a) : !book_residual(a, "string's", i, e->A[i] * a->moves[i] - e->c[i], e->A[i], a->moves[i]))
             return 0;
-    }
     return 1;
 }
 
@@ -112,6 +111,8 @@ static int energy_balanced(const account *a)
     wide lost = loss(a), done = work(a), over = after - (before + done - lost + a->rounding_work);
     balanced.lossy += lost != 0;
     balanced.worked += done != 0;
+    balanced.loss += lost;
+    balanced.work += done;
     if (before >= 0 && after >= 0 && lost >= 0 && over == 0)
         return 1;
     snprintf(wrong, sizeof wrong, "stored energy %.0Lf before and %.0Lf after the step, %.0Lf more than it comes to", (long double)before, (long double)after,
@@ -129,8 +130,11 @@ const char *balance_fault(const made_step *step, const equations *last)
     if (unrounded)
         return unrounded;
     balanced.steps++;
-    balanced.on_neck += a.on_neck;
+    balanced.on_neck += (unsigned)on_neck(last);
     balanced.under_finger += last->g > 0;
     balanced.at_limit += a.at_limit;
+    balanced.forced += step->given.pluck != 0 || step->given.finger_force != 0;
+    balanced.rounding_work += a.rounding_work;
+    balanced.rounding_limit += a.rounding_limit;
     return NULL;
 }

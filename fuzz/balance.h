@@ -18,6 +18,9 @@ typedef struct {
     unsigned long long at_limit;     /* with a doubled residual as large as its limit, as after a tie */
     unsigned long long lossy;        /* with a loss other than 0 */
     unsigned long long worked;       /* with a work other than 0 */
+    unsigned long long forced;       /* with a force other than 0 */
+    wide work, loss, rounding_work;  /* of all of them */
+    wide rounding_limit;             /* of all of them, each limit times the size of its move */
 } balance_tally;
 extern balance_tally balanced;
 

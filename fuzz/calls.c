@@ -12,6 +12,8 @@ typeof(sv_play_block) plain_block;
 enum { OF_SETUP = 31 << 1, OF_STATE = 1 << 6 | 1 << 7 | 1 << 11, OF_STEP = 1 << 12 | 1 << 13 | 1 << 14 };
 function_tally functions[FUNCTIONS] = {
     {.name = "sv_check_setup", .refusals = OF_SETUP},
+    {.name = "sv_bend", .refusals = OF_SETUP},
+    {.name = "sv_slide", .refusals = OF_SETUP},
     {.name = "sv_lay_neck", .refusals = OF_SETUP | 1 << 6 | 1 << 7 | 1 << 8 | 1 << 9},
     {.name = "sv_fresh_start", .refusals = OF_SETUP | 1 << 6 | 1 << 10},
     {.name = "sv_step", .refusals = OF_SETUP | OF_STATE | OF_STEP},
@@ -20,6 +22,7 @@ function_tally functions[FUNCTIONS] = {
     {.name = "sv_read_place", .refusals = OF_SETUP | OF_STATE},
 };
 surplus_tally surpluses;
+mended_tally mended;
 static function_tally *current;
 
 /* A second set of strings and contact variables, for steps that are made on a copy. */
@@ -91,6 +94,44 @@ uint32_t call_check_setup(sv_setup setup)
     return answered;
 }
 
+static void same_setup(sv_setup answered, sv_setup expected)
+{
+    same("segments", answered.segments, expected.segments);
+    same("tension", answered.tension, expected.tension);
+    same("stiffness", answered.stiffness, expected.stiffness);
+    same("viscous loss", answered.viscous, expected.viscous);
+    same("plain loss", answered.plain, expected.plain);
+    same("the finger's stiffness", answered.finger_stiffness, expected.finger_stiffness);
+    same("the finger's mass", answered.finger_mass, expected.finger_mass);
+    same("the finger's place", answered.finger_place, expected.finger_place);
+    same("the pluck's place", answered.pluck_place, expected.pluck_place);
+    same("the bridge pickup's place", answered.bridge_place, expected.bridge_place);
+    same("the neck pickup's place", answered.neck_place, expected.neck_place);
+}
+
+/* Calls a bend or a slide; later calls on the voice get the setup that it answers. */
+static uint32_t change_by(typeof(sv_bend) *change, typeof(sv_bend) *rule, voice *v, uint32_t value, unsigned long long *of_mended)
+{
+    sv_changed answered = change(v->setup, value), expected = rule(v->setup, value);
+    same_refusal(answered.refusal, expected.refusal);
+    same_setup(answered.setup, expected.setup);
+    *of_mended += answered.refusal == 0 && rule_check_setup(v->setup) != 0;
+    v->setup = answered.setup;
+    return answered.refusal;
+}
+
+uint32_t call_bend(voice *v, uint32_t tension)
+{
+    begin(BEND, v->setup);
+    return change_by(sv_bend, rule_bend, v, tension, &mended.bends);
+}
+
+uint32_t call_slide(voice *v, uint32_t place)
+{
+    begin(SLIDE, v->setup);
+    return change_by(sv_slide, rule_slide, v, place, &mended.slides);
+}
+
 static uint32_t lay_by(typeof(sv_lay_neck) *lay_neck, side whose, sv_setup setup, const neck_plan *plan, lent *heights, lent *stiffness)
 {
     return lay_neck(setup, shown(whose, plan->board), plan->board->length, plan->board_stiffness, shown(whose, plan->frets), plan->frets->length, plan->tip,
@@ -157,8 +198,7 @@ uint32_t call_read_place(const voice *v, uint32_t place)
     return answered.refusal;
 }
 
-/* The state in the library's pages. */
-static voice_state state_of(const voice *v)
+voice_state state_of(const voice *v)
 {
     const lent *newer = v->turn == 0 ? v->first : v->second, *older = v->turn == 0 ? v->second : v->first;
     return (voice_state){lent_numbers(newer), lent_numbers(older), lent_numbers(v->contact), v->finger};

@@ -5,7 +5,7 @@
 #include "arguments.h"
 #include "equations.h"
 
-enum { CHECK_SETUP, LAY_NECK, FRESH_START, STEP, PLAY_BLOCK, NEWEST, READ_PLACE, FUNCTIONS, REFUSALS = 16 };
+enum { CHECK_SETUP, BEND, SLIDE, LAY_NECK, FRESH_START, STEP, PLAY_BLOCK, NEWEST, READ_PLACE, FUNCTIONS, REFUSALS = 16 };
 
 typedef struct {
     const char *name;
@@ -21,7 +21,14 @@ typedef struct {
 } surplus_tally;
 extern surplus_tally surpluses;
 
+/* Bends and slides that were accepted, though the value they replaced would have been refused. */
+typedef struct {
+    unsigned long long bends, slides;
+} mended_tally;
+extern mended_tally mended;
+
 void calls_open(void);
+voice_state state_of(const voice *v); /* the numbers in the library's pages, for a turn and lengths that are in order */
 given_step step_given(const voice *v, int32_t pluck, int32_t finger_force); /* for a voice that is in order; its numbers are those in the library's pages */
 
 uint32_t call_check_setup(sv_setup setup);
@@ -30,7 +37,9 @@ void call_newest(uint32_t turn);
 uint32_t call_read_place(const voice *v, uint32_t place);
 uint32_t call_step_on_copy(const voice *v, int32_t pluck, int32_t finger_force); /* the refusal; the voice stays as it is */
 
-/* These three go on with the voice: turn and finger become those that the call answers. They answer the refusal. */
+/* These go on with the voice: its setup, or its turn and finger, become those that the call answers. They answer the refusal. */
+uint32_t call_bend(voice *v, uint32_t tension);
+uint32_t call_slide(voice *v, uint32_t place);
 uint32_t call_fresh_start(voice *v, int32_t height, int32_t older_height);
 uint32_t call_step(voice *v, int32_t pluck, int32_t finger_force, sv_frame *frame);
 uint32_t call_play_block(voice *v, lent *forces, lent *samples);

@@ -117,13 +117,15 @@ void work_out(equations *e, const given_step *step)
         form(e, step);
 }
 
-int any_contact(const equations *e)
+int on_neck(const equations *e)
 {
-    int any = e->g > 0;
+    int any = 0;
     for (size_t i = 1; i < e->N; i++)
         any |= e->G[i] > 0;
     return any;
 }
+
+int any_contact(const equations *e) { return e->g > 0 || on_neck(e); }
 
 int any_dropped(const equations *e) { return e->gone.away > 0 || e->gone.string_at_p > 0 || e->gone.finger > 0; }
 

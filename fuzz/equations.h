@@ -46,7 +46,8 @@ typedef struct {
 
 void work_out_first(equations *e, const given_step *step); /* the first working, with the gradients at the depths */
 void work_out(equations *e, const given_step *step);       /* the last working, in which no contact pulls */
-int any_contact(const equations *e);                       /* whether a gradient is above 0 */
+int on_neck(const equations *e);                           /* whether a gradient is above 0 at a point */
+int any_contact(const equations *e);                       /* whether one is, at a point or the finger's */
 int any_dropped(const equations *e);                       /* whether there was a working before this one */
 fraction exact_move(const equations *e, size_t i);         /* the exact solution at place i, at p that of both equations */
 fraction exact_finger_move(const equations *e);

@@ -1,4 +1,4 @@
-/* 01, 'What each operation turns down', 'Laying the neck', fresh start, newest string and 'reading a place'. */
+/* 01, 'What each operation turns down', 'Laying the neck', fresh start, newest string and 'reading a place'; 02, item 5, bends and slides. */
 #include "rules.h"
 
 static int in(int64_t low, int64_t number, int64_t high) { return low <= number && number <= high; }
@@ -23,6 +23,27 @@ uint32_t rule_check_setup(sv_setup s)
     if (!in(1, s.finger_place, N - 1) || !in(1, s.pluck_place, N - 1) || !in(1, s.bridge_place, N - 1) || !in(1, s.neck_place, N - 1))
         return 4;
     return in(1, s.finger_mass, 1048576) ? 0 : 5;
+}
+
+/* A setup with one value replaced, examined with it: itself if it is accepted, otherwise the one passed in. */
+static sv_changed examined(sv_setup replaced, sv_setup passed)
+{
+    uint32_t refusal = rule_check_setup(replaced);
+    return (sv_changed){refusal, refusal ? passed : replaced};
+}
+
+sv_changed rule_bend(sv_setup s, uint32_t tension)
+{
+    sv_setup bent = s;
+    bent.tension = tension;
+    return examined(bent, s);
+}
+
+sv_changed rule_slide(sv_setup s, uint32_t place)
+{
+    sv_setup slid = s;
+    slid.finger_place = place;
+    return examined(slid, s);
 }
 
 static int frets_right(sv_setup s, const uint32_t *frets, size_t length)

@@ -1,4 +1,4 @@
-/* Document 01 for all but step and block, written plainly: what the library's functions of the same names must answer and write. */
+/* Documents 01 and 02 for all but step and block, written plainly: what the library's functions of the same names must answer and write. */
 #ifndef RULES_H
 #define RULES_H
 
@@ -7,6 +7,8 @@
 enum { DISPLACEMENT = 1048576, CONTACT = 67108864, FORCE = 1073741824 }; /* the greatest of each, and below 0 the least */
 
 typeof(sv_check_setup) rule_check_setup;
+typeof(sv_bend) rule_bend;
+typeof(sv_slide) rule_slide;
 typeof(sv_lay_neck) rule_lay_neck;
 typeof(sv_fresh_start) rule_fresh_start;
 typeof(sv_newest) rule_newest;

@@ -39,12 +39,13 @@ double joules_of_units(wide energy) { return (double)energy * force_unit() * UNI
    4 / 3 * G * depth, and the force 2 * G * psi is stiffness * depth^2 / 6. */
 static uint16_t contact_stiffness(double K) { return (uint16_t)lrint(fmin(65535, 6 * K * UNIT * UNIT / force_unit())); }
 
-sv_setup instrument_setup(uint32_t finger_place, double hand)
+/* The frequency goes with the root of the tension: 1200 cents, its double, take four times the tension. */
+sv_setup instrument_setup(uint32_t finger_place, double cents, double hand)
 {
-    double I = acos(-1) * pow(CORE / 2, 4) / 4;
+    double I = acos(-1) * pow(CORE / 2, 4) / 4, bent = T0 * pow(2, cents / 600);
     return (sv_setup){
         .segments = SEGMENTS,
-        .tension = (uint32_t)lrint(4096 * T0 * k * k / (RHO_A * h * h)),
+        .tension = (uint32_t)lrint(4096 * bent * k * k / (RHO_A * h * h)),
         .stiffness = (uint32_t)lrint(4096 * E * I * k * k / (RHO_A * pow(h, 4))),
         .viscous = (uint32_t)lrint(4096 * 2 * SIGMA_1 * k / (h * h)),
         .plain = (uint32_t)lrint(4096 * hand * k),

@@ -9,8 +9,8 @@ enum { RATE = 44100, SEGMENTS = 90, POINTS = SEGMENTS - 1, FRETS = 22 };
 /* The semitone places of the first 22 frets for N = 90. */
 extern const uint32_t fret_places[FRETS];
 
-/* The setup with the finger at a place, and with the plain loss, in 1/s, of a hand that lies on the string (0: none). */
-sv_setup instrument_setup(uint32_t finger_place, double hand);
+/* The setup with the finger at a place, the string bent up by some cents, and the plain loss, in 1/s, of a hand that lies on the string (0: none). */
+sv_setup instrument_setup(uint32_t finger_place, double cents, double hand);
 
 /* Lays the neck: 0, or the refusal. */
 uint32_t instrument_neck(sv_setup setup, int32_t heights[POINTS], uint16_t stiffness[POINTS]);

@@ -1,7 +1,8 @@
-/* Plays a phrase on one string and writes it as sound and as a picture: open, fretted and tapped notes, and a rattle against the frets.
+/* Plays a phrase on one string and writes it as sound and as a picture: open, fretted, bent, slid and tapped notes, and a rattle against the frets.
 
-   Each note is a run of its own, from a fresh start with the finger at its place. The hand that silences it is a greater plain loss: another setup over the
-   same state. Demand 3 speaks of runs of one setup; the stored energy does not depend on the plain loss, and goes on from where it was. */
+   Each note is a list of calls of its own, from a fresh start with the finger at its place; bends and slides are made between its blocks. The hand that
+   silences it is a greater plain loss: another setup over the same state. Demand 3 does not speak of that; the stored energy does not depend on the plain
+   loss, and goes on from where it was. */
 #include <errno.h>
 #include <math.h>
 #include <stdio.h>
@@ -30,6 +31,9 @@ typedef struct {
     double energy[BLOCKS];    /* joules, after each block */
     uint32_t touched[BLOCKS]; /* frets touched in each block: bit i - 1 for fret i */
     int32_t largest;          /* displacement after a block */
+    uint32_t bends, slides;   /* that were made */
+    uint32_t tightest;        /* tension */
+    double bend_work;         /* of all bends, joules */
     double inside;            /* seconds inside sv_play_block */
 } take;
 
@@ -56,12 +60,16 @@ static void lay_neck(voice *v)
         refused("sv_lay_neck", refusal, 0);
 }
 
-/* The setup of a block, and a fresh start where a note begins. */
-static void prepare(voice *v, const note *n, double seconds)
+/* The newer and the older string. */
+typedef struct {
+    const int32_t *newer, *older;
+} strings;
+
+static strings strings_of(const voice *v) { return sv_newest(v->turn) == 0 ? (strings){v->first, v->second} : (strings){v->second, v->first}; }
+
+/* A fresh start where a note begins. */
+static void begin(voice *v, const note *n, double seconds)
 {
-    v->setup = player_setup(n, seconds);
-    if (n == v->playing)
-        return;
     int32_t height = player_finger_height();
     sv_started s = sv_fresh_start(v->setup, v->first, POINTS, v->second, POINTS, v->contact, POINTS, height, height);
     if (s.refusal)
@@ -69,6 +77,45 @@ static void prepare(voice *v, const note *n, double seconds)
     v->turn = s.turn;
     v->finger = s.finger;
     v->playing = n;
+}
+
+/* The string bent to a tension: its energy changes at once, by the work of the bend. */
+static void bend(voice *v, take *t, uint32_t tension, double seconds)
+{
+    strings s = strings_of(v);
+    wide work = bend_work(v->setup, tension, s.newer, s.older);
+    sv_changed c = sv_bend(v->setup, tension);
+    if (c.refusal)
+        refused("sv_bend", c.refusal, seconds);
+    v->setup = c.setup;
+    t->bends++;
+    t->bend_work += joules_of_units(work);
+    t->tightest = tension > t->tightest ? tension : t->tightest;
+}
+
+/* The finger slid to a place: its heights and its contact variable stay as they are. */
+static void slide(voice *v, take *t, uint32_t place, double seconds)
+{
+    sv_changed c = sv_slide(v->setup, place);
+    if (c.refusal)
+        refused("sv_slide", c.refusal, seconds);
+    v->setup = c.setup;
+    t->slides++;
+}
+
+/* Before a block: what the player changes of the setup, and a fresh start where a note begins. */
+static void prepare(voice *v, take *t, const note *n, double seconds)
+{
+    sv_setup wanted = player_setup(n, seconds);
+    if (n != v->playing) {
+        v->setup = wanted;
+        begin(v, n, seconds);
+    }
+    v->setup.plain = wanted.plain;
+    if (v->setup.tension != wanted.tension)
+        bend(v, t, wanted.tension, seconds);
+    if (v->setup.finger_place != wanted.finger_place)
+        slide(v, t, wanted.finger_place, seconds);
 }
 
 static uint32_t frets_pressed(const voice *v, double seconds)
@@ -102,12 +149,11 @@ static uint32_t frets_touched(voice copy, const int32_t *forces, size_t steps, d
 
 static void keep(const voice *v, take *t, size_t block)
 {
-    int second_is_newer = sv_newest(v->turn) == 1;
-    const int32_t *newer = second_is_newer ? v->second : v->first, *older = second_is_newer ? v->first : v->second;
-    t->energy[block] = joules_of_units(stored_energy(v->setup, newer, older, v->contact, v->finger));
+    strings s = strings_of(v);
+    t->energy[block] = joules_of_units(stored_energy(v->setup, s.newer, s.older, v->contact, v->finger));
     for (int i = 0; i < POINTS; i++)
-        if (abs(newer[i]) > t->largest)
-            t->largest = abs(newer[i]);
+        if (abs(s.newer[i]) > t->largest)
+            t->largest = abs(s.newer[i]);
 }
 
 /* The driver's buffer is lent whole, also for the shorter block; what lies past its last frame is silenced here, since it keeps its contents. */
@@ -117,7 +163,7 @@ static void play_block(voice *v, take *t, size_t block, float driver[2 * BLOCK])
     const note *n = note_at(seconds);
     size_t steps = steps_of_block(block);
     int32_t forces[2 * BLOCK];
-    prepare(v, n, seconds);
+    prepare(v, t, n, seconds);
     player_forces(n, seconds, v->finger, steps, forces);
     t->touched[block] = frets_touched(*v, forces, steps, seconds);
     double start = now();
@@ -174,6 +220,8 @@ static void report(const take *t)
            (unsigned)s.viscous, (unsigned)s.plain, (unsigned)s.finger_stiffness, (unsigned)s.finger_mass);
     for (int i = 0; i < NOTES; i++)
         report_note(t, &notes[i]);
+    printf("%u bends between L = %u and %u, which added %.1f uJ in all; %u slides\n", (unsigned)t->bends, (unsigned)s.tension, (unsigned)t->tightest,
+           1e6 * t->bend_work, (unsigned)t->slides);
     printf("loudest samples: bridge %.3f, neck %.3f; largest displacement %d of 1048576, %.2f mm\n", bridge, neck, (int)t->largest,
            1e3 * metres_of_units(t->largest));
     printf("%.2f s of sound, %.3f s inside sv_play_block: %.1f times real time, %.0f ns a step\n", PHRASE, t->inside, PHRASE / t->inside, 1e9 * t->inside / FRAMES);
@@ -186,8 +234,9 @@ static int write_picture(const char *path, const take *t)
     char caption[200];
     for (int i = 0; i < NOTES; i++)
         marks[i] = (plot_mark){notes[i].start, notes[i].name, notes[i].how};
-    snprintf(caption, sizeof caption, "N = %u, L = %u, M = %u, S = %u, Z = %u; 44,100 steps a second in blocks of %d; each note is a run from a fresh start",
-             (unsigned)s.segments, (unsigned)s.tension, (unsigned)s.stiffness, (unsigned)s.viscous, (unsigned)s.plain, BLOCK);
+    snprintf(caption, sizeof caption,
+             "N = %u, L = %u, in the bend up to %u, M = %u, S = %u, Z = %u; 44,100 steps a second in blocks of %d; each note from a fresh start",
+             (unsigned)s.segments, (unsigned)s.tension, (unsigned)t->tightest, (unsigned)s.stiffness, (unsigned)s.viscous, (unsigned)s.plain, BLOCK);
     plot p = {.title = "The string voice: a phrase on an A string", .caption = caption, .seconds = PHRASE, .samples = t->samples, .frames = FRAMES,
               .millimetres = 1e3 * metres_of_units(1048576), .energy = t->energy, .touched = t->touched, .blocks = BLOCKS, .frets = FRETS,
               .marks = marks, .marks_length = NOTES};

@@ -1,4 +1,4 @@
-// The string voice from Rust: lays a neck, begins a voice, plucks it and plays a second in blocks of 64.
+// The string voice from Rust: lays a neck, begins a voice, plucks it and plays a second in blocks of 64, with a bend and a slide.
 
 const N: usize = 90;
 const POINTS: usize = N - 1;
@@ -29,6 +29,12 @@ struct Finger {
 }
 
 #[repr(C)]
+struct Changed {
+    refusal: u32,
+    setup: Setup,
+}
+
+#[repr(C)]
 struct Started {
     refusal: u32,
     turn: u32,
@@ -45,6 +51,8 @@ struct Played {
 
 #[rustfmt::skip]
 extern "C" {
+    fn sv_bend(setup: Setup, tension: u32) -> Changed;
+    fn sv_slide(setup: Setup, place: u32) -> Changed;
     fn sv_lay_neck(setup: Setup, board: *const i32, board_length: usize, board_stiffness: u16, frets: *const u32, frets_length: usize, tip: i32,
                    fret_stiffness: u16, heights: *mut i32, heights_length: usize, stiffness: *mut u16, stiffness_length: usize) -> u32;
     fn sv_fresh_start(setup: Setup, first: *mut i32, first_length: usize, second: *mut i32, second_length: usize, contact: *mut i32, contact_length: usize,
@@ -61,8 +69,14 @@ fn accepted(call: &str, refusal: u32, step: usize) {
     }
 }
 
+// The setup for the calls that follow a bend or a slide.
+fn changed(call: &str, answer: Changed, step: usize) -> Setup {
+    accepted(call, answer.refusal, step);
+    answer.setup
+}
+
 fn main() {
-    let setup = Setup {
+    let mut setup = Setup {
         segments: N as u32, tension: 826, stiffness: 46, viscous: 8, plain: 0, finger_stiffness: 1, finger_mass: 933_479,
         finger_place: 28, pluck_place: 72, bridge_place: 84, neck_place: 68,
     };
@@ -78,9 +92,19 @@ fn main() {
     let started = unsafe { sv_fresh_start(setup, first.as_mut_ptr(), POINTS, second.as_mut_ptr(), POINTS, contact.as_mut_ptr(), POINTS, 800_000, 800_000) };
     accepted("sv_fresh_start", started.refusal, 0);
 
-    let (mut turn, mut finger, mut made, mut loudest) = (started.turn, started.finger, 0, 0f32);
+    let (mut turn, mut finger, mut made, mut loudest) = (started.turn, started.finger, 0usize, 0f32);
     let mut driver = [0f32; 2 * BLOCK]; // lent whole, also for the last block, which is shorter
+    let mut bends = 0;
     while made < 44_100 {
+        // bent by two semitones, 826 * 2^(1/3), within the second quarter of the second
+        let tension = 826 + 215 * made.saturating_sub(11_025).min(11_025) as u32 / 11_025;
+        if tension != setup.tension {
+            setup = changed("sv_bend", unsafe { sv_bend(setup, tension) }, made);
+            bends += 1;
+        }
+        if made >= 22_050 && setup.finger_place == 28 {
+            setup = changed("sv_slide", unsafe { sv_slide(setup, 31) }, made); // the finger, up, goes from fret 7 to fret 8
+        }
         let steps = BLOCK.min(44_100 - made);
         let mut forces = [0; 2 * BLOCK];
         for j in 0..steps {
@@ -97,4 +121,5 @@ fn main() {
         loudest = driver.iter().step_by(2).fold(loudest, |most, sample| most.max(sample.abs()));
     }
     println!("{made} steps in blocks of {BLOCK}, loudest sample of the bridge pickup {loudest:.4}");
+    println!("{bends} bends to L = {}, the finger slid to place {}", setup.tension, setup.finger_place);
 }

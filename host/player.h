@@ -4,7 +4,7 @@
 
 #include "instrument.h"
 
-enum { BLOCK = 64, FRAMES = 14 * RATE, BLOCKS = (FRAMES + BLOCK - 1) / BLOCK, NOTES = 9 };
+enum { BLOCK = 64, FRAMES = 18 * RATE, BLOCKS = (FRAMES + BLOCK - 1) / BLOCK, NOTES = 11 };
 
 #define PHRASE ((double)FRAMES / RATE) /* how long it is, s */
 
@@ -15,6 +15,8 @@ typedef struct {
     double start;
     uint32_t fret;
     double pull;
+    double bend;    /* by how many cents the string is bent up while the note sounds, and then let back; 0: it is not */
+    uint32_t slide; /* the fret to which the finger slides while the note sounds; 0: it stays */
 } note;
 
 extern const note notes[NOTES];
@@ -25,7 +27,7 @@ const note *note_at(double seconds);
 /* When a hand silences a note. */
 double note_end(const note *n);
 
-/* The setup at a time of a note: with the finger at its place, and with a hand on the string or without. */
+/* The setup at a time of a note: with the finger at its place, the string bent or not, and with a hand on the string or without. */
 sv_setup player_setup(const note *n, double seconds);
 
 /* Where the finger is at a note's fresh start. */

@@ -15,7 +15,7 @@
 extern "C" {
 #endif
 
-/* 01, 'Setup': what stays the same while a voice plays. Places are counted from the nut, 0, to the bridge, N; buffers hold the points 1 to N - 1. */
+/* 01, 'Setup': what stays the same while a voice plays, apart from bends and slides. Places are counted from the nut, 0, to the bridge, N; buffers hold the points 1 to N - 1. */
 typedef struct {
     uint32_t segments;         /* N, 2 to 128; neck, string and contact buffers are N - 1 long */
     uint32_t tension;          /* L, 1 to 4096 */
@@ -45,6 +45,18 @@ typedef struct {
 
 /* Examines a setup: 0 if it is accepted, otherwise 1 to 5. Every other function examines its setup in the same way. */
 uint32_t sv_check_setup(sv_setup setup);
+
+/* What a bend and a slide answer. */
+typedef struct {
+    uint32_t refusal; /* 0, or 1 to 5 */
+    sv_setup setup;   /* the new setup; after a refusal the one passed in */
+} sv_changed;
+
+/* A bend: the setup with another tension L, for the calls that follow. Examined as a setup is, with the new tension in place of the old, which is not examined. */
+sv_changed sv_bend(sv_setup setup, uint32_t tension); /* L, 1 to 4096, L + 4M + 2S at most 4096 */
+
+/* A slide: the setup with the finger at another place. Examined in the same way; the finger's heights and contact variable stay the caller's. */
+sv_changed sv_slide(sv_setup setup, uint32_t place); /* p, 1 to N - 1 */
 
 /* Lays the neck: writes the height and the stiffness of each point, or answers the refusal (1 to 5, 6, 7, 8 or 9) and writes nothing. 0 is accepted. */
 uint32_t sv_lay_neck(sv_setup setup,                                    /* of which only N counts, once it is accepted */

@@ -4,9 +4,10 @@ A call is the operation's name, then each argument under its label, as whole num
 """
 
 import struct
-from dataclasses import dataclass
+from dataclasses import astuple, dataclass
 from pathlib import Path
 
+from string_voice.bending import bend, slide
 from string_voice.moves import Finger
 from string_voice.neck import lay_neck
 from string_voice.playing import newest, play_block, read_place
@@ -95,6 +96,18 @@ def answer_setup(setup):
     return "0"
 
 
+def accepted_setup(setup):
+    return f"0 {labelled('setup', astuple(setup))}"
+
+
+def answer_bend(setup, tension):
+    return accepted_setup(bend(Setup(*setup), *tension))
+
+
+def answer_slide(setup, place):
+    return accepted_setup(slide(Setup(*setup), *place))
+
+
 def answer_neck(setup, board, board_stiffness, frets, tip, fret_stiffness, heights, stiffness):
     lay_neck(Setup(*setup), board, board_stiffness[0], frets, tip[0], fret_stiffness[0], heights, stiffness)
     return "0"
@@ -132,6 +145,8 @@ def answer_reading(setup, heights, first, second, turn, place):
 
 OPERATIONS = {
     "setup": answer_setup,
+    "bend": answer_bend,
+    "slide": answer_slide,
     "neck": answer_neck,
     "start": answer_start,
     "step": answer_step,

@@ -9,7 +9,7 @@ import sys
 
 from calls import Call, answer, crates_folder, refusal_of
 from changes import BRIDGE, FINGER, K, L, M, MASS, N, NECK, PLUCK, PRESSED, S, SLACK, U32, UNDER_FINGER, Z
-from changes import bench_block, bench_setup, bench_step, both, cut, give, longer, put
+from changes import bench_block, bench_setup, bench_step, both, cut, give, longer, put, with_new
 from contact_cases import all_contacts
 
 # ---- a call of each operation that is accepted
@@ -19,6 +19,9 @@ STRINGS = {"first": [100, 200, 300], "second": [110, 190, 310], "contact": [5, -
 NECK_AND_STATE = {"heights": [-50, 0, -1000], "stiffness": [60000, 9, 0]} | STRINGS | {"turn": [0], "finger": [180, 170, 40]}
 GOOD = {
     "setup": SETUP,
+    # with the new value the same setup
+    "bend": put("setup", (L, 1200))(SETUP) | {"tension": [1000]},
+    "slide": put("setup", (FINGER, 3))(SETUP) | {"place": [2]},
     "neck": SETUP
     | {
         "board": [-10, -20, -30],
@@ -45,6 +48,14 @@ SETUP_ROWS = [
     (4, [put("setup", (place, n)) for place in (NECK, BRIDGE, PLUCK, FINGER) for n in (0, 4, U32)]),
     (5, [put("setup", (MASS, n)) for n in (0, 1_048_577, U32)]),
 ]
+
+
+# 02, item 5: a bend and a slide are examined as a setup is, with the new value; the old one is not examined, whatever it is
+NEW = {"bend": with_new("tension", L), "slide": with_new("place", FINGER)}
+OLD = {
+    "bend": [put("setup", (L, n)) for n in (0, 1, 3596, 3597, 4096, 4097, U32)],
+    "slide": [put("setup", (FINGER, n)) for n in (0, 1, 4, 5, U32)],
+}
 
 
 def string_of(segments, *labels):
@@ -85,6 +96,8 @@ NEXT_CONTACT_ROW = (
 
 ROWS = {
     "setup": SETUP_ROWS,
+    "bend": [(number, NEW["bend"](changes)) for number, changes in SETUP_ROWS],
+    "slide": [(number, NEW["slide"](changes)) for number, changes in SETUP_ROWS],
     "neck": SETUP_ROWS
     + [
         lengths("board", "heights", "stiffness"),
@@ -150,8 +163,11 @@ STEP_ON = (
     + [put("finger", (0, 1000), (2, n)) for n in (67_108_864, -67_108_864)]
 )
 
+SETUP_ACCEPTED = SETUP_ON + [put("setup", (N, 128)), string_of(2)]
 ACCEPTED = {
-    "setup": SETUP_ON + [put("setup", (N, 128)), string_of(2)],
+    "setup": SETUP_ACCEPTED,
+    "bend": NEW["bend"](SETUP_ACCEPTED) + [give("tension", n) for n in (1200, 1201)],
+    "slide": NEW["slide"](SETUP_ACCEPTED) + [give("place", n) for n in (1, 3)],
     "neck": SETUP_ON
     + [with_frets(segments=2), with_frets(1, segments=2)]
     + [put("board", (1, 0)), put("board", (1, -1_048_576))]
@@ -288,6 +304,11 @@ def all_calls():
             for number, changes in rows[:row]:
                 if number != later:
                     yield f"{operation}: {number} before {later}", number, Call(operation, both(later_changes[0], changes[0])(good))
+    for operation, olds in OLD.items():
+        for old in olds:
+            yield f"{operation}: whatever the old value is", 0, Call(operation, old(GOOD[operation]))
+            for number, changes in ROWS[operation]:
+                yield f"{operation}: whatever the old value is", number, Call(operation, both(old, changes[0])(GOOD[operation]))
     for number, call in BOUNDARIES:
         yield "boundary of 13 and 14", number, call
     for call in TIES:

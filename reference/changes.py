@@ -44,6 +44,20 @@ def both(*changes):
     return change
 
 
+def with_new(label, field):
+    """Turns changes of a setup into changes of a call that replaces a field: those of the field become changes of the new value under this label."""
+
+    def turned(change):
+        def changed(arguments):
+            old, new = arguments["setup"][field], arguments[label][0]
+            setup = change(put("setup", (field, new))(arguments))["setup"]
+            return both(give("setup", *setup), put("setup", (field, old)), give(label, setup[field]))(arguments)
+
+        return changed
+
+    return lambda changes: [turned(change) for change in changes]
+
+
 # ---- 01's bench voice
 
 BENCH = {"setup": [2, 4096, 0, 0, 0, 0, 4096, 1, 1, 1, 1]}

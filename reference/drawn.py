@@ -1,5 +1,6 @@
-"""Drawn setups, necks, fingers and forces, by a generator that program `runs` has too."""
+"""Drawn setups, necks, fingers, forces, bends and slides, by a generator that program `runs` has too."""
 
+from string_voice.bending import bend, slide
 from string_voice.setup import Setup
 
 BITS = 0xFFFF_FFFF
@@ -114,3 +115,30 @@ def drawn_forces(generator, setup):
         which = generator.draw(128)
         forces[which] = generator.beyond()
     return forces
+
+
+def drawn_tension(generator, setup):
+    """A tension to bend to. In an eighth of the draws it is refused, for it is 0 or above the greatest that the sum leaves room for. Where the old one is a
+    multiple of 512 it is one too, so that there are still ties."""
+    greatest = 4096 - 4 * setup.stiffness - 2 * setup.viscous
+    if generator.draw(8) == 0:
+        above, excess = generator.draw(2), generator.draw(4097 - greatest)
+        return greatest + 1 + excess if above else 0
+    unit = 512 if setup.tension % 512 == 0 else 1
+    return greatest - multiple(generator.draw(greatest), unit)
+
+
+def drawn_bend(generator, setup):
+    return bend, drawn_tension(generator, setup)
+
+
+def drawn_slide(generator, setup):
+    """To a place that in an eighth of the draws is refused, for it is an end of the string."""
+    if generator.draw(8) == 0:
+        return slide, setup.segments if generator.draw(2) else 0
+    return slide, 1 + generator.draw(setup.segments - 1)
+
+
+def drawn_change(generator, setup):
+    """A bend or a slide: the operation and its new value."""
+    return drawn_bend(generator, setup) if generator.draw(2) == 0 else drawn_slide(generator, setup)

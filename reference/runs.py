@@ -1,8 +1,9 @@
 """Writes runs/stdout, into crates/ or a folder named: long runs on drawn setups, necks, fingers and forces, played by the reference.
 
-A run is stretches of 256 frames, each of them four parts of 64: a block, single steps, a block, single steps. The checksum of a run takes in every
-refusal, and after each part the turn, the finger, all buffers and all samples. The steps must have made enough ties of every kind, and have cleared and
-dropped enough contacts of every kind.
+A run is stretches of 256 frames, each of them four parts of 64: a block, single steps, a block, single steps; between single steps there are bends and
+slides. The checksum of a run takes in every refusal, and after each part the turn, the finger, all buffers and all samples. The steps must have made enough
+ties of every kind, and have cleared and dropped enough contacts of every kind, and there must be enough bends and slides with the string free, on the neck and
+under the finger.
 """
 
 import sys
@@ -13,12 +14,11 @@ from itertools import pairwise
 from math import floor
 
 from calls import crates_folder, single_bits
-from drawn import Generator, drawn_forces, drawn_heights, drawn_neck, drawn_setup
-from string_voice.neck import lay_neck
+from drawn import Generator, drawn_change, drawn_forces
+from string_voice.energy import bend_work
 from string_voice.playing import play_block
 from string_voice.ranges import Refused
-from string_voice.setup import check_setup
-from string_voice.step import fresh_start, step
+from voices import CONTACTS, Voice
 
 RUNS = 48
 STRETCHES = 21
@@ -26,6 +26,7 @@ ENOUGH = 100
 TIES = [("tie", where, above, even) for where in ("away from p", "at p", "of the finger") for above in (True, False) for even in (True, False)]
 CLEARED = [("cleared", where) for where in ("at a point", "of the finger")]
 DROPPED = [("dropped", where) for where in ("away from p", "at p, the string's", "at p, the finger's", "at p, both together")]
+CHANGED = [(operation, where) for operation in ("bend", "slide") for where in CONTACTS]
 
 
 def ties_of(worked):
@@ -66,24 +67,9 @@ class Run:
     def __init__(self, seed, segments):
         self.seed = seed
         self.generator = Generator(seed)
-        self.setup = drawn_setup(self.generator, segments)
-        check_setup(self.setup)
-        points = segments - 1
-        self.heights, self.stiffness = [0] * points, [0] * points
-        lay_neck(self.setup, *drawn_neck(self.generator, segments), self.heights, self.stiffness)
-        self.first, self.second, self.contact = [0] * points, [0] * points, [0] * points
+        self.voice = Voice(self.generator, segments)
         self.samples = [0] * 128
-        self.steps, self.refused, self.checksum, self.kinds = 0, {12: 0, 13: 0, 14: 0}, 0, Counter()
-        self.start()
-
-    def start(self):
-        """Starts anew, with a drawn finger."""
-        self.turn, self.finger = fresh_start(self.setup, self.first, self.second, self.contact, *drawn_heights(self.generator))
-
-    @property
-    def voice(self):
-        """What step and block are both lent."""
-        return self.setup, self.heights, self.stiffness, self.first, self.second, self.contact, self.turn, self.finger
+        self.steps, self.refused, self.checksum, self.kinds = 0, dict.fromkeys((2, 3, 4, 12, 13, 14), 0), 0, Counter()
 
     def add(self, *words):
         """Takes words of 32 bits into the checksum."""
@@ -96,10 +82,34 @@ class Run:
         if refusal:
             self.refused[refusal] += 1
 
+    def call(self, operation, *arguments):
+        """Makes a call, and counts it. Answers its refusal, 0 if it has none."""
+        refusal = 0
+        try:
+            operation(*arguments)
+        except Refused as refused:
+            refusal = refused.number
+        self.count(refusal)
+        return refusal
+
+    def change(self, operation, value):
+        """A bend or a slide. A bend with work is counted, and a slide to another place, by where the string was in contact."""
+        voice, old, contacts = self.voice, self.voice.setup, self.voice.contacts
+        voice.change(operation, value)
+        if bend_work(old, voice.setup, voice.state) or voice.setup.finger_place != old.finger_place:
+            self.kinds.update((operation.__name__, where) for where in contacts)
+
+    def step(self, frame, forces):
+        """One frame of 64."""
+        stepped = self.voice.step(*forces)
+        self.kinds.update(kinds_of(stepped))
+        self.samples[2 * frame : 2 * frame + 2] = stepped.frame
+        self.steps += 1
+
     def block(self, forces):
         """64 frames as one block. Answers its refusal, 0 if it has none."""
-        played = play_block(*self.voice, forces, self.samples)
-        self.turn, self.finger = played.turn, played.finger
+        played = play_block(*self.voice.lent, forces, self.samples)
+        self.voice.turn, self.voice.finger = played.turn, played.finger
         self.steps += played.count
         for stepped in played.steps:
             self.kinds.update(kinds_of(stepped))
@@ -107,50 +117,45 @@ class Run:
         return played.refusal
 
     def singles(self, forces):
-        """64 frames as single steps; one that is refused does not end them. Answers the last one's refusal."""
+        """64 frames as single steps, before about one of eight a bend or a slide; one that is refused does not end them. Answers the last step's refusal."""
         for frame in range(64):
-            refusal = 0
-            try:
-                stepped = step(*self.voice, *forces[2 * frame : 2 * frame + 2])
-                self.kinds.update(kinds_of(stepped))
-                self.turn, self.finger = stepped.turn, stepped.finger
-                self.samples[2 * frame : 2 * frame + 2] = stepped.frame
-                self.steps += 1
-            except Refused as refused:
-                refusal = refused.number
-            self.count(refusal)
+            if self.generator.draw(8) == 0:
+                self.call(self.change, *drawn_change(self.generator, self.voice.setup))
+            refusal = self.call(self.step, frame, forces[2 * frame : 2 * frame + 2])
         return refusal
 
     def part(self, play):
         """64 frames. After 13 or 14 the voice starts anew."""
-        refusal = play(drawn_forces(self.generator, self.setup))
-        finger = self.finger
-        numbers = [finger.newer, finger.older, finger.contact, *self.first, *self.second, *self.contact]
-        self.add(self.turn)
+        voice = self.voice
+        refusal = play(drawn_forces(self.generator, voice.setup))
+        finger = voice.finger
+        numbers = [finger.newer, finger.older, finger.contact, *voice.first, *voice.second, *voice.contact]
+        self.add(voice.turn)
         for x in numbers:
             self.add(int(x < 0), abs(x))
         self.add(*(int(single_bits(x), 16) for x in self.samples))
         if refusal > 12:
-            self.start()
+            voice.start()
 
     def line(self, stretch):
         """What a stretch came to."""
-        finger = self.finger
+        voice, finger = self.voice, self.voice.finger
         return (
             f"run {self.seed} stretch {stretch} steps {self.steps} refused {' '.join(map(str, self.refused.values()))}"
-            f" strings {sum(self.first)} {sum(self.second)} contact {sum(self.contact)}"
-            f" finger {finger.newer} {finger.older} {finger.contact} turn {self.turn}"
+            f" tension {voice.setup.tension} place {voice.setup.finger_place}"
+            f" strings {sum(voice.first)} {sum(voice.second)} contact {sum(voice.contact)}"
+            f" finger {finger.newer} {finger.older} {finger.contact} turn {voice.turn}"
             f" samples {' '.join(map(single_bits, self.samples[126:]))} checksum {self.checksum:08x}"
         )
 
 
 def played(number):
-    """The lines of a run, and its kinds of ties and contacts. The segments of the runs go evenly from 2 to 128."""
+    """The lines of a run, and its kinds of ties, contacts and changes. The segments of the runs go evenly from 2 to 128."""
     run = Run(number + 1, 2 + number * 126 // (RUNS - 1))
     lines = []
     for stretch in range(STRETCHES):
         if run.generator.draw(4) == 0:
-            run.start()
+            run.voice.start()
         for play in (run.block, run.singles, run.block, run.singles):
             run.part(play)
         lines.append(run.line(stretch))
@@ -161,7 +166,7 @@ def main(crates):
     with ProcessPoolExecutor() as pool:
         runs = list(pool.map(played, range(RUNS)))
     kinds = sum((of_run for _, of_run in runs), Counter())
-    for kind in [*TIES, *CLEARED, *DROPPED]:
+    for kind in [*TIES, *CLEARED, *DROPPED, *CHANGED]:
         assert kinds[kind] >= ENOUGH, f"{kind}: {kinds[kind]}, and not {ENOUGH}"
     lines = [line for of_run, _ in runs for line in of_run]
     (crates / "runs" / "stdout").write_text("\n".join(lines) + "\n")

@@ -1,50 +1,126 @@
-"""Demand 3 on drawn runs of the reference, and that no contact pulls: the energy after each step, every residual and its limit, every contact."""
+"""Demand 3 on drawn lists of calls of the reference, bends and slides among them, and that no contact pulls: the energies after each call, every residual
+and its limit, every contact."""
 
 import unittest
+from collections import Counter
+from dataclasses import replace
+from itertools import product
 
-from drawn import Generator, drawn_forces, drawn_heights, drawn_neck, drawn_setup
-from string_voice.energy import loss, rounding_limit, rounding_work, stored, within_limits, work
-from string_voice.neck import lay_neck
+from drawn import Generator, drawn_change, drawn_forces, drawn_slide
+from string_voice.bending import slide
+from string_voice.energy import bend_work, loss, rounding_limit, rounding_work, stored, within_limits, work
 from string_voice.ranges import Refused
-from string_voice.step import fresh_start, state_of, step
+from voices import CONTACTS, Voice
+
+ENOUGH = 20
+
+
+class Book:
+    """The sums of a list of calls from a fresh start, which the voice has just made."""
+
+    def __init__(self, voice):
+        self.voice = voice
+        self.start = self.stored
+        self.work = self.loss = self.rounding = self.limit = 0
+        self.unforced = True
+
+    @property
+    def stored(self):
+        """By the newest setup."""
+        return stored(self.voice.setup, self.voice.state)
+
+    def step(self, pluck, finger_force):
+        stepped = self.voice.step(pluck, finger_force)
+        worked = stepped.workings[-1]
+        self.work += work(worked)
+        self.loss += loss(stepped.given, worked)
+        self.rounding += rounding_work(worked)
+        self.limit += rounding_limit(worked)
+        self.unforced &= pluck == finger_force == 0
+        return stepped
+
+    def change(self, operation, value):
+        """A bend or a slide."""
+        old = self.voice.setup
+        self.voice.change(operation, value)
+        self.work += bend_work(old, self.voice.setup, self.voice.state)
+        self.unforced &= operation is slide
+
+
+def drawn_voices():
+    for segments in (2, 3, 7, 24, 128):
+        for seed in range(1, 5):
+            yield Voice(Generator(1000 * seed + segments), segments)
+
+
+def no_forces(_generator, _setup):
+    return [0] * 128
 
 
 class Energy(unittest.TestCase):
-    def test_every_step_of_drawn_runs(self):
-        for segments in (2, 3, 7, 24, 128):
-            steps = self.run_of(Generator(segments), segments)
-            self.assertGreater(steps, 128)
+    def setUp(self):
+        self.met = Counter()  # accepted calls, and lists that are lossless and unforced, by where the string was in contact; refusals
 
-    def run_of(self, generator, segments):
-        """Four parts of 64 frames, with a fresh start after 13 or 14; answers how many steps were accepted."""
-        setup, points = drawn_setup(generator, segments), segments - 1
-        heights, stiffness = [0] * points, [0] * points
-        lay_neck(setup, *drawn_neck(generator, segments), heights, stiffness)
-        first, second, contact = [0] * points, [0] * points, [0] * points
-        turn, finger = fresh_start(setup, first, second, contact, *drawn_heights(generator))
-        steps = 0
+    def test_calls(self):
+        """Steps with forces, bends and slides."""
+        for voice in drawn_voices():
+            self.play(voice, drawn_change, drawn_forces)
+        self.check_met("step", "bend", "slide")
+        self.assertEqual({number for name, number in self.met if name == "refused"}, {2, 3, 4, 12, 13, 14})
+
+    def test_calls_without_loss_and_force(self):
+        """Slides, and steps without a force, on setups without losses: until a contact variable is cleared there is none."""
+        for voice in drawn_voices():
+            voice.setup = replace(voice.setup, viscous=0, plain=0)
+            self.play(voice, drawn_slide, no_forces)
+        self.check_met("lossless and unforced", "slide")
+
+    def check_met(self, *names):
+        for met in product(names, CONTACTS):
+            self.assertGreater(self.met[met], ENOUGH, met)
+
+    def play(self, voice, drawn_change, drawn_forces):
+        """Four parts of 64 frames, before each of them a bend or a slide; after 13 or 14 a fresh start and a new list."""
+        book = Book(voice)
         for _ in range(4):
-            forces = drawn_forces(generator, setup)
-            for pluck, finger_force in zip(forces[::2], forces[1::2]):
-                try:
-                    stepped = step(setup, heights, stiffness, first, second, contact, turn, finger, pluck, finger_force)
-                except Refused as refused:
-                    if refused.number > 12:
-                        turn, finger = fresh_start(setup, first, second, contact, *drawn_heights(generator))
-                    continue
-                turn, finger = stepped.turn, stepped.finger
-                self.check(setup, stepped.given, stepped.workings[-1], state_of(first, second, contact, turn, finger))
-                steps += 1
-        return steps
+            forces = drawn_forces(voice.generator, voice.setup)
+            for pair in zip(forces[::2], forces[1::2]):
+                operation, value = drawn_change(voice.generator, voice.setup)
+                self.call(book, operation.__name__, book.change, operation, value)
+                if self.call(book, "step", self.step, book, *pair) > 12:
+                    voice.start()
+                    book = Book(voice)
 
-    def check(self, setup, before, worked, after):
-        """The energy balance of one step, exactly; no contact pulls."""
-        energy = stored(setup, before) + work(worked) - loss(before, worked) + rounding_work(worked)
-        self.assertEqual(stored(setup, after), energy)
+    def call(self, book, name, call, *arguments):
+        """Makes a call and checks the list that it ends. Answers its refusal, 0 if it has none."""
+        before, contacts = (book.voice.setup, book.voice.state, vars(book).copy()), book.voice.contacts
+        refusal = 0
+        try:
+            call(*arguments)
+            self.met.update((name, where) for where in contacts)
+        except Refused as refused:
+            refusal = refused.number
+            self.assertEqual((book.voice.setup, book.voice.state, vars(book)), before)
+            self.met["refused", refusal] += 1
+        self.check(book, contacts)
+        return refusal
+
+    def check(self, book, contacts):
+        """Demand 3."""
+        energy = book.stored
+        self.assertEqual(energy, book.start + book.work - book.loss + book.rounding)
         self.assertGreaterEqual(energy, 0)
-        self.assertGreaterEqual(loss(before, worked), 0)
+        self.assertLessEqual(abs(book.rounding), book.limit)
+        if book.loss == 0 and book.unforced:
+            self.assertLessEqual(abs(energy - book.start), book.limit)
+            self.met.update(("lossless and unforced", where) for where in contacts)
+
+    def step(self, book, pluck, finger_force):
+        """A step; every residual is within its limit, nothing is gained by its loss, and no contact pulls."""
+        stepped = book.step(pluck, finger_force)
+        worked, after = stepped.workings[-1], book.voice.state
+        self.assertGreaterEqual(loss(stepped.given, worked), 0)
         self.assertTrue(within_limits(worked))
-        self.assertLessEqual(abs(rounding_work(worked)), rounding_limit(worked))
         old, gradients = worked.state, worked.gradients
         contacts = [(gradients.finger, old.finger.contact, after.finger.contact), *zip(gradients.points, old.contact, after.contact)]
         self.assertTrue(all(slope * (psi + new) >= 0 for slope, psi, new in contacts))

@@ -1,4 +1,4 @@
-"""01, 'Energy', with 02's item 3: stored energy, and loss, work, residuals, limits and rounding work of a step, by its last working."""
+"""01, 'Energy', with 02's items 3 and 5: stored energy; loss, work, residuals, limits and rounding work of a step, by its last working; work of a bend."""
 
 from .differences import d1, difference, dot, e
 
@@ -25,6 +25,11 @@ def loss(given, worked):
 
 def work(worked):
     return 2 * worked.pluck * worked.moves[worked.setup.pluck_place] + 2 * worked.finger_force * worked.finger_move
+
+
+def bend_work(old, new, state):
+    """The work of a change from one setup to another: of a slide it is 0."""
+    return 2 * (new.tension - old.tension) * e(state.newer, state.older)
 
 
 def equations(worked):

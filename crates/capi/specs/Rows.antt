@@ -11,6 +11,7 @@ use Rattle.model.specs.declared.Frame.{Frame}
 use Rattle.model.specs.declared.Reading.{Reading}
 use Rattle.model.specs.declared.Reading.the-variants.{Free, Pressed, Refused}
 use Rattle.capi.specs.declared.setup_row.SetupRow.{SetupRow}
+use Rattle.capi.specs.declared.changed_row.ChangedRow.{ChangedRow}
 use Rattle.capi.specs.declared.sv_fresh_start.StartRow.{StartRow}
 use Rattle.capi.specs.declared.sv_step.StepRow.{StepRow}
 use Rattle.capi.specs.declared.sv_read_place.ReadingRow.{ReadingRow}
@@ -27,6 +28,27 @@ setupOf row = record {
   «bridge_place» = row .«bridge_place»;
   «neck_place» = row .«neck_place»;
 }
+
+-- the row of a setup
+abbrev pub rowOf : Setup → SetupRow
+rowOf s = record {
+  segments = s .segments;
+  tension = s .tension;
+  stiffness = s .stiffness;
+  viscous = s .viscous;
+  plain = s .plain;
+  «finger_stiffness» = s .finger .stiffness;
+  «finger_mass» = s .finger .mass;
+  «finger_place» = s .finger .place;
+  «pluck_place» = s .«pluck_place»;
+  «bridge_place» = s .«bridge_place»;
+  «neck_place» = s .«neck_place»;
+}
+
+-- the setup after a bend or a slide, which after a refusal is the one passed in
+abbrev pub changedRow : SetupRow → Answer Setup → ChangedRow
+changedRow passed (accepted s) = record { refusal = 0; setup = rowOf s }
+changedRow passed (refused n) = record { refusal = n; setup = passed }
 
 -- the refusal's number, 0 if there is none
 abbrev pub number : {A : Type 0} → Answer A → ℕ

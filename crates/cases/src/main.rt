@@ -5,6 +5,7 @@ ghost use lib.ListN.{length};
 
 mod arguments;
 mod block;
+mod changes;
 mod neck;
 mod newest;
 mod reading;
@@ -14,17 +15,28 @@ mod start;
 mod step;
 mod words;
 
-// Answers the call of a line. An operation is known by the fourth letter of its name.
+// Answers the call of a line.
 fn answer(line: &[u8]) {
-    match words::byte_at(line, 3) {
-        b'u' => setup::answer(line),
-        b'k' => neck::answer(line),
-        b'r' => start::answer(line),
-        b'p' => step::answer(line),
-        b'c' => block::answer(line),
-        b'e' => newest::answer(line),
-        b'd' => reading::answer(line),
-        _ => printing::text(b"no such operation"),
+    if words::first_is(line, b"setup") {
+        setup::answer(line)
+    } else if words::first_is(line, b"bend") {
+        changes::answer_bend(line)
+    } else if words::first_is(line, b"slide") {
+        changes::answer_slide(line)
+    } else if words::first_is(line, b"neck") {
+        neck::answer(line)
+    } else if words::first_is(line, b"start") {
+        start::answer(line)
+    } else if words::first_is(line, b"step") {
+        step::answer(line)
+    } else if words::first_is(line, b"block") {
+        block::answer(line)
+    } else if words::first_is(line, b"newest") {
+        newest::answer(line)
+    } else if words::first_is(line, b"reading") {
+        reading::answer(line)
+    } else {
+        printing::text(b"no such operation")
     }
     printing::text(b"\n");
 }

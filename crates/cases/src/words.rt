@@ -8,6 +8,16 @@ pub fn byte_at(line: &[u8], at: usize) -> u8 {
     if at < line.len() { line[at] } else { b'\n' }
 }
 
+// Whether the line's first word, which has a space behind it, is this one.
+pub fn first_is(line: &[u8], word: &[u8]) -> bool {
+    for i in 0..word.len() {
+        if byte_at(line, i) != word[i] {
+            return false;
+        }
+    }
+    byte_at(line, word.len()) == b' '
+}
+
 // The start of the line after this one.
 pub fn after_line(text: &[u8], at: usize) -> usize
     requires { ⌜ at < length (now text) ⌝ }

@@ -13,6 +13,7 @@ use Rattle.integers.specs.Tests.{is-true, is-false}
 use Rattle.model.specs.Ranges.{all, any, between}
 use Rattle.model.specs.Refusal.{Rule, firstOf, Answer, accepted, refused}
 use Rattle.model.specs.Setup.{N, L, M, S, Z, m, p, e, points, placeOk, lengthOk, coefficientWrong, ownPlaces, setupRules, setup}
+use Rattle.model.specs.Changes.{withTension, withPlace, bend, slide}
 use Rattle.model.specs.Differences.{at}
 use Rattle.model.specs.State.{State, Lent, byTurn, newest, stateOf, put, Neck, Forces}
 use Rattle.model.specs.Step.{clear, workedStep, nextState, buffersRule, callRules, resultRules, stepRules, frame, StepResult, step}
@@ -239,10 +240,17 @@ unfolding laid
 laid-at s plan k h = rw (getD-tabulate (points s) (λ k. cond (fretAt (plan .frets) (suc k)) (plan .tip) (at (plan .board) (suc k))) (pos 0) k h, getD-tabulate (points s) (λ k. cond (fretAt (plan .frets) (suc k)) (plan .fretStiffness) (plan .boardStiffness)) 0 k h)
     record { fret = λ t. rw (is-true (fretAt (plan .frets) (suc k)) t) (refl, refl); board = λ t. rw (is-false (fretAt (plan .frets) (suc k)) t) (refl, refl) }
 
+-- an accepted setup is the one examined, and passed 1 to 5
+pub setup-examined : (s s' : Setup) → setup s ≡ accepted s' → SetupFacts s × (s' ≡ s)
+unfolding setup setupRules
+setup-examined s s' q = let r = accepted-by (λ (r : Answer Setup). r) (setupRules s) tt (accepted s) _ (λ n. refl) s' q in (setup-facts s (r .0), cc)
+
 pub accepts : Accepts
-unfolding setup lay start setupRules neckRules startRules laid
+unfolding lay start bend slide setupRules neckRules startRules laid
 accepts = record {
-  setups = λ s a q. let r = accepted-by (λ (r : Answer Setup). r) (setupRules s) tt (accepted s) _ (λ n. refl) a q .1 in cc;
+  setups = λ s a q. setup-examined s a q .1;
+  bends = λ s a L' q. setup-examined (withTension s L') a q .1;
+  slides = λ s a p' q. setup-examined (withPlace s p') a q .1;
   necks = λ s plan heights stiffness q.
       let r = accepted-by (λ (r : NeckResult). r .answer) (neckRules s plan heights stiffness) tt _ _ (λ n. refl) tt q .1 in
       rw r (length-tabulate (points s) _, length-tabulate (points s) _, laid-at s plan);

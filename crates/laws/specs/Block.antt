@@ -13,7 +13,7 @@ use Rattle.model.specs.Refusal.{firstOf, unless, Answer, accepted, refused}
 use Rattle.model.specs.Setup.{setupRules}
 use Rattle.model.specs.State.{Lent, stateOf, Neck, Forces}
 use Rattle.model.specs.Step.{step}
-use Rattle.model.specs.Run.{voice, call, history, acceptedSteps, voiceAfter}
+use Rattle.model.specs.Steps.{voice, call, history, acceptedSteps, voiceAfter}
 use Rattle.model.specs.Block.{pairs, stopped, play, blockRules, block}
 use Rattle.model.specs.declared.Setup.{Setup}
 use Rattle.model.specs.declared.Frame.{Frame}

@@ -1,9 +1,9 @@
 -- The promises, each proved.
 use mathlib.Core.Path.{refl}
-use mathlib.Core.List.{[]}
 use native.Mathlib.Omega.{arith}
 use Rattle.model.specs.Refusal.{Answer}
 use Rattle.model.specs.Setup.{setup, setupRules}
+use Rattle.model.specs.Changes.{withTension, withPlace, bend, slide}
 use Rattle.model.specs.State.{stateOf}
 use Rattle.model.specs.Neck.{neckRules, NeckResult, lay}
 use Rattle.model.specs.Start.{startRules, StartResult, start}
@@ -12,13 +12,15 @@ use Rattle.model.specs.Block.{blockRules}
 use Rattle.model.specs.Reading.{readingRules}
 use Rattle.model.specs.declared.Setup.{Setup}
 use Rattle.promises.specs.Promises as promise
-use Rattle.promises.specs.Promises.{Demand1, Accepts, Demand2, NoContactPulls, OnlyAbove, Runs, Demand3, Blocks, LongerSamples, Frames, Readings, Rounding, Refuses, Leaves}
+use Rattle.promises.specs.Promises.{Demand1, Accepts, Demand2, NoContactPulls, OnlyAbove, Blocks, LongerSamples, Frames, Readings, Rounding, Refuses, Leaves}
+use Rattle.promises.specs.Energy.{Runs, Demand3, StepRuns}
 use Rattle.laws.specs.Refusals.{first-unique, by-table}
 use Rattle.laws.specs.Nearest.{nearest-is, unique}
 use Rattle.laws.specs.Accepted as Accepted
-use Rattle.laws.specs.Accepted.{sound, start-accepted}
+use Rattle.laws.specs.Accepted.{setup-facts, start-accepted}
 use Rattle.laws.specs.Solved as Solved
 use Rattle.laws.specs.OnlyAbove as Above
+use Rattle.laws.specs.Run as Run
 use Rattle.laws.specs.Run.{run}
 use Rattle.promises.specs.Symmetry.{Symmetry}
 use Rattle.laws.specs.Symmetry as Symmetric
@@ -26,11 +28,17 @@ use Rattle.laws.specs.Exact as Exact
 use Rattle.laws.specs.Block as Block
 use Rattle.laws.specs.LongerSamples as Longer
 
+setup-refuses : (s : Setup) → Refuses (setupRules s) (setup s)
+unfolding setup setupRules
+setup-refuses s = by-table (setupRules s) tt _ _ (λ (r : Answer Setup). Refuses (setupRules s) r) (λ h. h) (λ n h. (omega arith, h))
+
 -- every refusal is the first whose condition holds, and leaves what was lent
 pub demand1 : Demand1
-unfolding setup lay start step setupRules neckRules startRules stepRules callRules resultRules blockRules readingRules
+unfolding setup bend slide lay start step setupRules neckRules startRules stepRules callRules resultRules blockRules readingRules
 demand1 = record {
-  setups = λ s. by-table (setupRules s) tt _ _ (λ (r : Answer Setup). Refuses (setupRules s) r) (λ h. h) (λ n h. (omega arith, h));
+  setups = setup-refuses;
+  bends = λ s L'. setup-refuses (withTension s L');
+  slides = λ s p'. setup-refuses (withPlace s p');
   necks = λ s plan heights stiffness. by-table (neckRules s plan heights stiffness) tt _ _
       (λ (r : NeckResult). Refuses (neckRules s plan heights stiffness) (r .answer) × Leaves (r .answer) heights (r .heights) × Leaves (r .answer) stiffness (r .stiffness))
       (λ h. (h, tt, tt)) (λ n h. ((omega arith, h), refl, refl));
@@ -57,15 +65,18 @@ no-contact-pulls = Solved.no-contact-pulls
 pub only-above : OnlyAbove
 only-above = Above.only-above
 
--- the energy of every list of steps
+-- the energy of every list of steps, bends and slides
 pub runs : Runs
-unfolding setupRules
-runs s neck v h first second Fs = run s neck (sound s [] h) Fs v record { first = record { long = first }; second = record { long = second } }
+runs s neck v h first second qs = run neck qs s v (setup-facts s h) record { first = record { long = first }; second = record { long = second } }
 
 pub demand3 : Demand3
-demand3 s _ t _ _ plan heights stiffness neck _ first second contact w w' v h Fs =
+demand3 s _ t _ _ plan heights stiffness neck _ first second contact w w' v h qs =
     let (passed, fitting) = start-accepted s first second contact w w' v h in
-    runs s neck v passed (fitting .first .long) (fitting .second .long) Fs
+    runs s neck v passed (fitting .first .long) (fitting .second .long) qs
+
+-- of which a list of steps alone is the special case
+pub step-runs : StepRuns
+step-runs = Run.step-runs
 
 pub blocks : Blocks
 blocks = Block.blocks

@@ -14,6 +14,7 @@ pub mod Limits
 pub mod Balance
 pub mod Positive
 pub mod Loss
+pub mod Changes
 pub mod Loose
 pub mod Symmetry
 pub mod Run

@@ -18,7 +18,7 @@ use Rattle.model.specs.State.{PointsAndFinger}
 use Rattle.model.specs.Step.{A, c, system, WorkedStep}
 use Rattle.model.specs.Energy.{residuals, limits}
 use Rattle.model.specs.declared.Setup.{Setup}
-use Rattle.promises.specs.Promises.{EachWithin, WithinLimits}
+use Rattle.promises.specs.Energy.{EachWithin, WithinLimits}
 use Rattle.laws.specs.System.{residual₁-≤, residual₂-≤}
 use Rattle.laws.specs.Moves.{NearestMoves, A-positive}
 

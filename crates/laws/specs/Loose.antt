@@ -18,7 +18,7 @@ use Rattle.model.specs.Rounding.{nearest}
 use Rattle.model.specs.System.{rounded₁, rounded₂}
 use Rattle.model.specs.State.{State, Lent, Neck, Forces, PointsAndFinger}
 use Rattle.model.specs.Step.{factor, rightSide, fingerSystem, clear, A, c, system, moves, workedStep, nextState, step}
-use Rattle.model.specs.Run.{voice, Call, call, history}
+use Rattle.model.specs.Steps.{voice, Call, call, history}
 use Rattle.model.specs.declared.Setup.{Setup}
 use Rattle.promises.specs.Promises.{Every}
 use Rattle.laws.specs.Nearest.{nearest-scaled}

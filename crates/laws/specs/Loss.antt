@@ -1,4 +1,4 @@
--- The loss of a step is never negative; where it is 0, no variable other than 0 was cleared.
+-- The loss of a step is never negative; where it is 0, no variable other than 0 was cleared. A bend and a slide lose nothing.
 use mathlib.Core.Path.{_≡_, refl, sym}
 use mathlib.Core.Bool.{Bool, true, false, cond}
 use mathlib.Core.Logic.{⊎-elim}
@@ -16,9 +16,11 @@ use Rattle.integers.specs.Sum.{sum, sum-one, sum-≤}
 use Rattle.model.specs.Setup.{S, Z}
 use Rattle.model.specs.Differences.{at, dot, E}
 use Rattle.model.specs.Step.{WorkedStep}
-use Rattle.model.specs.Energy.{dotAll, released, loss}
-use Rattle.model.specs.Run.{sumOver}
-use Rattle.promises.specs.Promises.{Every, ClearsNothing}
+use Rattle.model.specs.Energy as Energy
+use Rattle.model.specs.Energy.{dotAll, released}
+use Rattle.model.specs.Run.{Entry, stepped, bent, slid, loss, total}
+use Rattle.promises.specs.Promises.{Every}
+use Rattle.promises.specs.Energy.{ClearsNothing, OfStep}
 
 -- ---- sums of squares
 
@@ -64,13 +66,13 @@ module _ (t : WorkedStep) where
   unfolding moving
   moving-nonneg = sum-nonneg (times-nonneg (times-nonneg (nonneg 2) (nonneg (Z (t .setup)))) (dot-nonneg (t .moves .points))) (times-nonneg (nonneg (S (t .setup))) (E-nonneg (t .moves .points)))
 
-  loss-nonneg : pos 0 ≤ℤ loss t
-  unfolding loss released dotAll moving
+  loss-nonneg : pos 0 ≤ℤ Energy.loss t
+  unfolding Energy.loss released dotAll moving
   loss-nonneg = sum-nonneg moving-nonneg (times-nonneg (nonneg 2) (sum-nonneg (dot-nonneg (t .cleared .points)) (square-nonneg (t .cleared .finger))))
 
   -- one that lets energy go is not lossless
-  clears-nothing : loss t ≤ℤ pos 0 → ClearsNothing t
-  unfolding loss released dotAll moving
+  clears-nothing : Energy.loss t ≤ℤ pos 0 → ClearsNothing t
+  unfolding Energy.loss released dotAll moving
   clears-nothing h =
       let r = dot (t .cleared .points) (t .cleared .points) in
       let q = t .cleared .finger *ℤ t .cleared .finger in
@@ -81,15 +83,25 @@ module _ (t : WorkedStep) where
 
 -- ---- of a run
 
-losses-nonneg : (ts : List WorkedStep) → pos 0 ≤ℤ sumOver loss ts
-unfolding sumOver
-losses-nonneg [] = ≤-refl
-losses-nonneg (t ∷ ts) = sum-nonneg (loss-nonneg t) (losses-nonneg ts)
+entry-loss : (e : Entry) → pos 0 ≤ℤ loss e
+entry-loss (stepped t) = loss-nonneg t
+entry-loss (bent b) = ≤-refl
+entry-loss slid = ≤-refl
 
-pub lossless-clears : (ts : List WorkedStep) → sumOver loss ts ≤ℤ pos 0 → Every ClearsNothing ts
-unfolding sumOver
+entry-clears : (e : Entry) → loss e ≤ℤ pos 0 → OfStep ClearsNothing e
+entry-clears (stepped t) h = clears-nothing t h
+entry-clears (bent b) h = tt
+entry-clears slid h = tt
+
+losses-nonneg : (es : List Entry) → pos 0 ≤ℤ total loss es
+unfolding total
+losses-nonneg [] = ≤-refl
+losses-nonneg (e ∷ es) = sum-nonneg (entry-loss e) (losses-nonneg es)
+
+pub lossless-clears : (es : List Entry) → total loss es ≤ℤ pos 0 → Every (OfStep ClearsNothing) es
+unfolding total
 lossless-clears [] h = tt
-lossless-clears (t ∷ ts) h = (clears-nothing t (first (losses-nonneg ts) h), lossless-clears ts (second (loss-nonneg t) h))
+lossless-clears (e ∷ es) h = (entry-clears e (first (losses-nonneg es) h), lossless-clears es (second (entry-loss e) h))
   where
     first : {a b : ℤ} → pos 0 ≤ℤ b → (a +ℤ b) ≤ℤ pos 0 → a ≤ℤ pos 0
     first {a} {b} = deduce 2 (λ a b. times 1 (# 0 ≼ b) ∷ times 1 (a ⊕ b ≼ # 0) ∷ [] ⊢ a ≼ # 0) tt a b

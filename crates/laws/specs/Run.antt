@@ -1,4 +1,4 @@
--- Demand 3: the claims on the energy hold for every list of steps, from any strings of the setup's length, on any neck.
+-- Demand 3: the claims on the energy hold for every list of steps, bends and slides, from any strings of the setup's length, on any neck.
 use mathlib.Core.Path.{_≡_, refl, sym, _∙_, ap, ap₂, subst}
 use mathlib.Core.List.{List, [], _∷_}
 use Prim.Native.Nat.{ℕ, zero, suc}
@@ -13,25 +13,30 @@ use Rattle.model.specs.Setup.{e, points}
 use Rattle.model.specs.Differences.{at, dot}
 use Rattle.model.specs.State.{State, Lent, byTurn, stateOf, put, Neck, Forces}
 use Rattle.model.specs.Step.{clear, WorkedStep, workedStep, nextState, step}
-use Rattle.model.specs.Energy.{storedEnergy, work, released, loss, dotAll, residuals, limits, roundingWork, roundingLimit}
-use Rattle.model.specs.Run.{Voice, voice, energyOf, history, acceptedSteps, voiceAfter, sumOver}
+use Rattle.model.specs.Energy as Energy
+use Rattle.model.specs.Energy.{storedEnergy, released, dotAll, residuals, limits}
+use Rattle.model.specs.Steps.{Voice, voice, after, call, history, acceptedSteps, voiceAfter}
+use Rattle.model.specs.Changes.{withTension, withPlace, bend, slide}
+use Rattle.model.specs.Run.{energyOf, Request, toStep, toBend, toSlide, Entry, stepped, bent, slid, taken, entries, lastVoice, work, loss, roundingWork, roundingLimit, total}
 use Rattle.model.specs.declared.Setup.{Setup}
 use Rattle.model.specs.declared.Frame.{Frame}
-use Rattle.promises.specs.Promises.{Every, WithinLimits, Unforced, Claims, Run}
+use Rattle.promises.specs.Promises.{Every}
+use Rattle.promises.specs.Energy.{WithinLimits, NoForce, OfStep, Unforced, Claims, Run, StepRun, StepRuns}
 use Rattle.laws.specs.Strings.{_spans_, spans-plus, dot-size}
 use Rattle.laws.specs.Clearing.{energy-released}
 use Rattle.laws.specs.Loss.{lossless-clears}
 use Rattle.laws.specs.Balance.{balance, fit}
 use Rattle.laws.specs.Positive.{energy-nonneg}
-use Rattle.laws.specs.Accepted.{SetupFacts, StepFacts, step-accepted, accepted-step, step-refused, Fitting, spans-newer, spans-older}
+use Rattle.laws.specs.Accepted.{SetupFacts, setup-examined, StepFacts, step-accepted, accepted-step, step-refused, Fitting, spans-newer, spans-older}
 use Rattle.laws.specs.Moves.{moves-nearest}
 use Rattle.laws.specs.Limits.{within-at, within-limits}
+use Rattle.laws.specs.Changes.{bend-balance, slide-balance, fitting-other}
 
 -- ---- one step
 
 -- residuals within their limits do little work
-rounding-≤ : (t : WorkedStep) → WithinLimits t → size (roundingWork t) ≤ℤ roundingLimit t
-unfolding roundingWork roundingLimit dotAll residuals limits
+rounding-≤ : (t : WorkedStep) → WithinLimits t → size (Energy.roundingWork t) ≤ℤ Energy.roundingLimit t
+unfolding Energy.roundingWork Energy.roundingLimit dotAll residuals limits
 rounding-≤ t h =
     let r = residuals t in
     let δ = t .moves in
@@ -40,18 +45,18 @@ rounding-≤ t h =
     (≤-sum (dot-size (record { long = length-tabulate (points (t .setup)) _ }) (record { long = length-tabulate (points (t .setup)) _ }) (δ .points) (λ i _ _. within-at (r .points) (limits t .points) (h .points) i))
     (≤-trans (≤-of-eq (size-mul (pos 2 *ℤ r .finger) (δ .finger))) (times-≤ (nonneg (natAbs (δ .finger))) (h .finger)))))
 
-no-work : (t : WorkedStep) → Unforced t → work t ≡ pos 0
-unfolding work
+no-work : (t : WorkedStep) → NoForce t → Energy.work t ≡ pos 0
+unfolding Energy.work
 no-work t u = ap₂ (λ f g. pos 2 *ℤ f *ℤ at (t .moves .points) (e (t .setup)) +ℤ pos 2 *ℤ g *ℤ t .moves .finger) (u .pluck) (u .finger)
     ∙ solve 2 (λ a b. # 2 ⊗ # 0 ⊗ a ⊕ # 2 ⊗ # 0 ⊗ b ≐ # 0) tt (at (t .moves .points) (e (t .setup))) (t .moves .finger)
 
 -- what an accepted step from x to y gives
 module _ {s : Setup} {neck : Neck} {x : State} {F : Forces} {y : State} (h : StepFacts s neck x F y) where
-  step-balance : let t = workedStep s neck x F in storedEnergy s y ≡ storedEnergy s x +ℤ work t -ℤ loss t +ℤ roundingWork t
+  step-balance : let t = workedStep s neck x F in storedEnergy s y ≡ storedEnergy s x +ℤ Energy.work t -ℤ Energy.loss t +ℤ Energy.roundingWork t
   unfolding workedStep released
   step-balance =
       let t = workedStep s neck x F in
-      rw (h .result) (balance t (fit F (h .examined)) ∙ ap (λ e. e +ℤ work t -ℤ loss t +ℤ roundingWork t) (sym (energy-released (h .examined))))
+      rw (h .result) (balance t (fit F (h .examined)) ∙ ap (λ e. e +ℤ Energy.work t -ℤ Energy.loss t +ℤ Energy.roundingWork t) (sym (energy-released (h .examined))))
 
   step-limits : WithinLimits (workedStep s neck x F)
   unfolding workedStep
@@ -73,45 +78,94 @@ fitting-step s neck v F f q h = rw (step-accepted s neck v F f q .1) record { fi
     choose zero p q = p
     choose (suc n) p q = q
 
+-- ---- one accepted call
+
+rounding-entry : (e : Entry) → OfStep WithinLimits e → size (roundingWork e) ≤ℤ roundingLimit e
+rounding-entry (stepped t) h = rounding-≤ t h
+rounding-entry (bent b) h = ≤-refl
+rounding-entry slid h = ≤-refl
+
+no-work-entry : (e : Entry) → Unforced e → work e ≡ pos 0
+no-work-entry (stepped t) u = no-work t u
+no-work-entry (bent b) u = absurd u
+no-work-entry slid u = refl
+
 -- ---- a run
 
-unforced-work : (ts : List WorkedStep) → Every Unforced ts → sumOver work ts ≡ pos 0
-unfolding sumOver
+unforced-work : (es : List Entry) → Every Unforced es → total work es ≡ pos 0
+unfolding total
 unforced-work [] u = refl
-unforced-work (t ∷ ts) u = ap₂ (λ x y. x +ℤ y) (no-work t (u .0)) (unforced-work ts (u .1))
+unforced-work (e ∷ es) u = ap₂ (λ x y. x +ℤ y) (no-work-entry e (u .0)) (unforced-work es (u .1))
 
--- the last claim follows from two others
-conserves : (v w : Voice) (ts : List WorkedStep) → energyOf w ≡ energyOf v +ℤ sumOver work ts -ℤ sumOver loss ts +ℤ sumOver roundingWork ts → size (sumOver roundingWork ts) ≤ℤ sumOver roundingLimit ts
-    → sumOver loss ts ≡ pos 0 → Every Unforced ts → size (energyOf w -ℤ energyOf v) ≤ℤ sumOver roundingLimit ts
-conserves v w ts q b l u = rw (q, unforced-work ts u, l) (≤-trans (≤-of-eq (ap size (solve 2 (λ e r. e ⊕ # 0 ⊖ # 0 ⊕ r ⊖ e ≐ r) tt (energyOf v) (sumOver roundingWork ts)))) b)
+-- the claim on lossless unforced runs follows from two others
+conserves : (v w : Voice) (es : List Entry) → energyOf w ≡ energyOf v +ℤ total work es -ℤ total loss es +ℤ total roundingWork es → size (total roundingWork es) ≤ℤ total roundingLimit es
+    → total loss es ≡ pos 0 → Every Unforced es → size (energyOf w -ℤ energyOf v) ≤ℤ total roundingLimit es
+conserves v w es q b l u = rw (q, unforced-work es u, l) (≤-trans (≤-of-eq (ap size (solve 2 (λ e r. e ⊕ # 0 ⊖ # 0 ⊕ r ⊖ e ≐ r) tt (energyOf v) (total roundingWork es)))) b)
 
 none : (v : Voice) → pos 0 ≤ℤ energyOf v → Claims v v []
-unfolding sumOver
+unfolding total
 none v h =
     let q : energyOf v ≡ energyOf v +ℤ pos 0 -ℤ pos 0 +ℤ pos 0 = solve 1 (λ e. e ≐ e ⊕ # 0 ⊖ # 0 ⊕ # 0) tt (energyOf v) in
     record { never-negative = h; exact = q; limited = tt; bounded = ≤-refl; conserved = conserves v v [] q ≤-refl; lossless = λ _. tt }
 
-one : {v v' w : Voice} {t : WorkedStep} {ts : List WorkedStep} → energyOf v' ≡ energyOf v +ℤ work t -ℤ loss t +ℤ roundingWork t → WithinLimits t → Claims v' w ts → Claims v w (t ∷ ts)
-unfolding sumOver
-one {v} {v'} {w} {t} {ts} q l c = record { never-negative = c .never-negative; exact = exact; limited = (l, c .limited); bounded = bounded; conserved = conserves v w (t ∷ ts) exact bounded; lossless = λ l. lossless-clears (t ∷ ts) (≤-of-eq l) }
+one : {v v' w : Voice} {e : Entry} {es : List Entry} → energyOf v' ≡ energyOf v +ℤ work e -ℤ loss e +ℤ roundingWork e → OfStep WithinLimits e → Claims v' w es → Claims v w (e ∷ es)
+unfolding total
+one {v} {v'} {w} {e} {es} q l c = record { never-negative = c .never-negative; exact = exact; limited = (l, c .limited); bounded = bounded; conserved = conserves v w (e ∷ es) exact bounded; lossless = λ l. lossless-clears (e ∷ es) (≤-of-eq l) }
   where
-    exact : energyOf w ≡ energyOf v +ℤ sumOver work (t ∷ ts) -ℤ sumOver loss (t ∷ ts) +ℤ sumOver roundingWork (t ∷ ts)
-    exact = c .exact ∙ ap (λ e. e +ℤ sumOver work ts -ℤ sumOver loss ts +ℤ sumOver roundingWork ts) q
+    exact : energyOf w ≡ energyOf v +ℤ total work (e ∷ es) -ℤ total loss (e ∷ es) +ℤ total roundingWork (e ∷ es)
+    exact = c .exact ∙ ap (λ E. E +ℤ total work es -ℤ total loss es +ℤ total roundingWork es) q
         ∙ solve 7 (λ e w l r W L R. (e ⊕ w ⊖ l ⊕ r) ⊕ W ⊖ L ⊕ R ≐ e ⊕ (w ⊕ W) ⊖ (l ⊕ L) ⊕ (r ⊕ R)) tt
-        (energyOf v) (work t) (loss t) (roundingWork t) (sumOver work ts) (sumOver loss ts) (sumOver roundingWork ts)
+        (energyOf v) (work e) (loss e) (roundingWork e) (total work es) (total loss es) (total roundingWork es)
 
-    bounded : size (sumOver roundingWork (t ∷ ts)) ≤ℤ sumOver roundingLimit (t ∷ ts)
-    bounded = ≤-trans (size-add (roundingWork t) (sumOver roundingWork ts)) (≤-sum (rounding-≤ t l) (c .bounded))
+    bounded : size (total roundingWork (e ∷ es)) ≤ℤ total roundingLimit (e ∷ es)
+    bounded = ≤-trans (size-add (roundingWork e) (total roundingWork es)) (≤-sum (rounding-entry e l) (c .bounded))
 
-module _ (s : Setup) (neck : Neck) (ok : SetupFacts s) where
-  from : {v v' : Lent} {w : Voice} {ts : List WorkedStep} → v' ≡ v → Claims (voice s v') w ts → Claims (voice s v) w ts
-  from {w} {ts} q c = subst (λ (v : Lent). Claims (voice s v) w ts) q c
+from : {s : Setup} {v v' : Lent} {w : Voice} {es : List Entry} → v' ≡ v → Claims (voice s v') w es → Claims (voice s v) w es
+from {s} {w} {es} q c = subst (λ (v : Lent). Claims (voice s v) w es) q c
 
-  pub run : (Fs : List Forces) (v : Lent) → Fitting s v → Run neck (voice s v) Fs
-  unfolding history acceptedSteps voiceAfter
-  run [] v h = none (voice s v) (energy-nonneg s (stateOf v) (spans-newer h) (spans-older h) (ok .stable))
-  run (F ∷ Fs) v h = go (step s neck v F .answer) refl (run Fs (step s neck v F .lent))
+module _ (neck : Neck) where
+  -- the claims for a list, wherever it starts
+  abbrev Everywhere : List Request → Type 0
+  Everywhere qs = (s : Setup) (v : Lent) → SetupFacts s → Fitting s v → Run neck (voice s v) qs
+
+  after-step : (F : Forces) (qs : List Request) → Everywhere qs → Everywhere (toStep F ∷ qs)
+  unfolding entries lastVoice taken acceptedSteps
+  after-step F qs rest s v ok h = go (step s neck v F .answer) refl
     where
-      go : (a : Answer Frame) → step s neck v F .answer ≡ a → (Fitting s (step s neck v F .lent) → Run neck (voice s (step s neck v F .lent)) Fs) → Run neck (voice s v) (F ∷ Fs)
-      go (accepted f) q rest = let k = accepted-step s neck v F f q in rw (q, acceptedSteps) (one (step-balance k) (step-limits k) (rest (fitting-step s neck v F f q h)))
-      go (refused n) q rest = let same = step-refused s neck v F n q in rw (q, acceptedSteps) (from same (rest (rw same h)))
+      go : (a : Answer Frame) → step s neck v F .answer ≡ a → Run neck (voice s v) (toStep F ∷ qs)
+      go (accepted f) q = let k = accepted-step s neck v F f q in rw q (one (step-balance k) (step-limits k) (rest s (step s neck v F .lent) ok (fitting-step s neck v F f q h)))
+      go (refused n) q = let same = step-refused s neck v F n q in rw q (from same (rest s (step s neck v F .lent) ok (rw same h)))
+
+  after-bend : (L' : ℕ) (qs : List Request) → Everywhere qs → Everywhere (toBend L' ∷ qs)
+  unfolding entries lastVoice taken bend
+  after-bend L' qs rest s v ok h = go (bend s L') refl
+    where
+      go : (a : Answer Setup) → bend s L' ≡ a → Run neck (voice s v) (toBend L' ∷ qs)
+      go (accepted s') q = let (facts, e) = setup-examined (withTension s L') s' q in rw (q, e) (one (bend-balance s L' (stateOf v)) tt (rest (withTension s L') v facts (fitting-other refl h)))
+      go (refused n) q = rw q (rest s v ok h)
+
+  after-slide : (p' : ℕ) (qs : List Request) → Everywhere qs → Everywhere (toSlide p' ∷ qs)
+  unfolding entries lastVoice taken slide
+  after-slide p' qs rest s v ok h = go (slide s p') refl
+    where
+      go : (a : Answer Setup) → slide s p' ≡ a → Run neck (voice s v) (toSlide p' ∷ qs)
+      go (accepted s') q = let (facts, e) = setup-examined (withPlace s p') s' q in rw (q, e) (one (slide-balance s p' (stateOf v)) tt (rest (withPlace s p') v facts (fitting-other refl h)))
+      go (refused n) q = rw q (rest s v ok h)
+
+  pub run : (qs : List Request) → Everywhere qs
+  unfolding entries lastVoice
+  run [] = λ s v ok h. none (voice s v) (energy-nonneg s (stateOf v) (spans-newer h) (spans-older h) (ok .stable))
+  run (toStep F ∷ qs) = after-step F qs (run qs)
+  run (toBend L' ∷ qs) = after-bend L' qs (run qs)
+  run (toSlide p' ∷ qs) = after-slide p' qs (run qs)
+
+-- ---- steps alone
+
+pub step-runs : StepRuns
+unfolding entries lastVoice taken acceptedSteps history voiceAfter
+step-runs neck v [] = record { last = refl; entered = refl }
+step-runs neck v (F ∷ Fs) = go (call neck v F .result .answer) refl (step-runs neck (after (call neck v F)) Fs)
+  where
+    go : (a : Answer Frame) → call neck v F .result .answer ≡ a → StepRun neck (after (call neck v F)) Fs → StepRun neck v (F ∷ Fs)
+    go (accepted f) q rest = record { last = rest .last; entered = rw (q, acceptedSteps) (ap (λ es. stepped (workedStep (v .setup) neck (stateOf (v .lent)) F) ∷ es) (rest .entered)) }
+    go (refused n) q rest = record { last = rest .last; entered = rw (q, acceptedSteps) (rest .entered) }

@@ -20,7 +20,7 @@ use Rattle.model.specs.Rounding.{nearest}
 use Rattle.model.specs.State.{State, Lent, byTurn, stateOf, put, Neck, Forces}
 use Rattle.model.specs.Neck.{heightsRule}
 use Rattle.model.specs.Step.{factor, clear, workedStep, nextState, buffersRule, stateRule, stateOk, forcesRule, callRules, resultRules, stepRules, StepResult, step}
-use Rattle.model.specs.Run.{history}
+use Rattle.model.specs.Steps.{history}
 use Rattle.model.specs.declared.Setup.{Setup}
 use Rattle.promises.specs.Symmetry.{Opposite, opposed, Contacts, Alike, Symmetry}
 use Rattle.laws.specs.Refusals.{passed, front-number}

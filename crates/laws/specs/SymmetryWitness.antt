@@ -12,7 +12,7 @@ use Rattle.model.specs.Rounding.{nearest, floor}
 use Rattle.model.specs.System.{rounded₁, rounded₂}
 use Rattle.model.specs.State.{Lent, stateOf, put, Neck, Forces, PointsAndFinger}
 use Rattle.model.specs.Step.{gradients, kept, clear, moves, nextState, pulls, left, totals, somePull, dropped, settled, workedStep, A, c, system, callRules, resultRules, stepRules, step}
-use Rattle.model.specs.Run.{voice, history}
+use Rattle.model.specs.Steps.{voice, history}
 use Rattle.model.specs.Bench.{benchSetup, finger, onePoint, forces}
 use Rattle.model.specs.declared.Setup.{Setup}
 use Rattle.promises.specs.Promises.{Every}

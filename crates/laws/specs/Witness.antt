@@ -15,17 +15,19 @@ use Rattle.model.specs.Fraction.{fraction}
 use Rattle.model.specs.State.{Lent, stateOf, put, Neck}
 use Rattle.model.specs.Step.{gradients, clear, cleared, kept, letGo, moves, A, c, system, nextState, pulls, left, totals, somePull, dropped, settled, workedStep, callRules, resultRules, stepRules, frame, step}
 use Rattle.model.specs.Start.{fresh, startRules, start}
-use Rattle.model.specs.Run.{voice}
+use Rattle.model.specs.Steps.{voice}
+use Rattle.model.specs.Run.{toStep, toBend, toSlide}
 use Rattle.model.specs.Bench.{benchSetup, bench, flatNeck, finger, restingFinger, onePoint, forces}
-use Rattle.promises.specs.Promises.{Run, PlaysNoPart, NonePulls}
+use Rattle.promises.specs.Promises.{PlaysNoPart, NonePulls}
+use Rattle.promises.specs.Energy.{Run}
 use Rattle.laws.specs.Demands.{no-contact-pulls, demand3, longer-samples}
 
--- ---- demand 3, all at once: the neck is laid with another setup than the one that plays; of the three steps the second is refused
+-- ---- demand 3, all at once: the neck is laid with another setup than the one that plays; the second step, the first bend and the first slide are refused
 
 plan : Plan
 plan = record { board = pos 0 ∷ []; boardStiffness = 7; frets = 1 ∷ []; tip = pos 0; fretStiffness = 64 }
 
-witness : Run (flatNeck 64) (voice bench (onePoint (pos 0) (pos 0) (pos 0) 0 restingFinger)) (forces (pos 2048) (pos 0) ∷ forces (pos 2000000000) (pos 0) ∷ forces (pos 0) (pos 0) ∷ [])
+witness : Run (flatNeck 64) (voice bench (onePoint (pos 0) (pos 0) (pos 0) 0 restingFinger)) (toStep (forces (pos 2048) (pos 0)) ∷ toStep (forces (pos 2000000000) (pos 0)) ∷ toBend 0 ∷ toBend 100 ∷ toSlide 2 ∷ toSlide 1 ∷ toStep (forces (pos 0) (pos 0)) ∷ [])
 unfolding plan setup setupRules placeOk lengthOk between inside displacementOk heightOk lay neckRules laid start startRules fresh
 witness = demand3 bench refl (benchSetup 1 0 0 0 9) refl refl plan (pos 3 ∷ []) (5 ∷ []) (flatNeck 64) refl (pos 7 ∷ []) (pos 8 ∷ []) (pos 9 ∷ []) (pos 0) (pos 0) (onePoint (pos 0) (pos 0) (pos 0) 0 restingFinger) refl _
 

@@ -1,6 +1,8 @@
 -- What the answers of the operations come to, with the lent buffers at exit: the number and the values of each case. The contract of an operation
 -- equates this with the operation's definition, for all arguments:
 --   setup     setupResult answer ≡ setup s
+--   bend      setupResult answer ≡ bend s L'
+--   slide     setupResult answer ≡ slide s p'
 --   neck      neckResult answer heights stiffness ≡ lay s plan heights₀ stiffness₀
 --   start     startResult answer first second contact ≡ start s first₀ second₀ contact₀ w w'
 --   step      stepResult turn₀ finger₀ answer first second contact ≡ step s neck v F

@@ -9,8 +9,9 @@ use lib.ListN.{replicate}
 use mathlib.Core.Bool.{false}
 use Rattle.integers.specs.Filled.{tabulate}
 use Rattle.model.specs.Ranges.{between, inside, displacementOk, contactOk, forceOk, heightOk}
-use Rattle.model.specs.Refusal.{firstOf, numbers}
-use Rattle.model.specs.Setup.{setupRules, placeOk, lengthOk}
+use Rattle.model.specs.Refusal.{firstOf, numbers, Answer, accepted, refused}
+use Rattle.model.specs.Setup.{setup, setupRules, placeOk, lengthOk}
+use Rattle.model.specs.Changes.{withPlace, bend, slide}
 use Rattle.model.specs.Differences.{plus, minus, times, D1}
 use Rattle.model.specs.Gradient.{gradient, root, greatest}
 use Rattle.model.specs.Rounding.{nearest, floor}
@@ -22,7 +23,7 @@ use Rattle.model.specs.Step.{stepRules, callRules, resultRules, gradient
 use Rattle.model.specs.Block.{blockRules}
 use Rattle.model.specs.Reading.{readingRules}
 use Rattle.model.specs.Table.{Line, _gives_, Right}
-use Rattle.model.specs.Bench.{benchSetup, finger, restingFinger, onePoint, forces}
+use Rattle.model.specs.Bench.{benchSetup, bench, finger, restingFinger, onePoint, forces}
 use Rattle.model.specs.declared.Setup.{Setup}
 
 -- ---- the order, for all arguments
@@ -223,3 +224,28 @@ unfolding rows setupRows neckRows startRows stepRows blockRows readingRows setup
     contactOk forceOk stateOf gradients gradient root greatest moves workedStep clear cleared kept letGo settled somePull dropped totals pulls left
     nextState A c system rounded₁ rounded₂ nearest floor plus minus times zipWith D1
 boundaries = refl
+
+-- ---- 02, item 5: bends and slides
+
+-- a setup whose finger is off the string
+astray : Setup
+astray = withPlace bench 9
+
+changeRows : List (Line (Answer Setup))
+changeRows =
+    -- the tension
+    bend bench 0 gives refused 2 ∷ bend bench 1 gives accepted (benchSetup 1 0 0 0 0) ∷ bend bench 4096 gives accepted bench ∷ bend bench 4097 gives refused 2
+    -- the sum
+    ∷ bend (benchSetup 100 900 50 0 0) 396 gives accepted (benchSetup 396 900 50 0 0) ∷ bend (benchSetup 100 900 50 0 0) 397 gives refused 3
+    -- the old tension is not examined, the others are
+    ∷ bend (benchSetup 0 0 0 0 0) 5 gives accepted (benchSetup 5 0 0 0 0) ∷ bend (benchSetup 4294967295 0 0 0 0) 5 gives accepted (benchSetup 5 0 0 0 0)
+    ∷ bend (benchSetup 4096 1 0 0 0) 5 gives accepted (benchSetup 5 1 0 0 0) ∷ bend (benchSetup 100 0 0 4097 0) 5 gives refused 2 ∷ bend astray 5 gives refused 4
+    -- the place
+    ∷ slide bench 0 gives refused 4 ∷ slide bench 1 gives accepted bench ∷ slide bench 2 gives refused 4
+    -- the old place is not examined, the others are
+    ∷ slide astray 1 gives accepted bench ∷ slide (benchSetup 0 0 0 0 0) 1 gives refused 2 ∷ slide (benchSetup 4096 1 0 0 0) 1 gives refused 3
+    ∷ []
+
+changes : Right changeRows
+unfolding changeRows astray bend slide setup setupRules placeOk between
+changes = refl

@@ -2,6 +2,7 @@
 pub mod Ranges
 pub mod Refusal
 pub mod Setup
+pub mod Changes
 pub mod Differences
 pub mod Gradient
 pub mod Rounding
@@ -11,6 +12,7 @@ pub mod State
 pub mod Neck
 pub mod Step
 pub mod Start
+pub mod Steps
 pub mod Energy
 pub mod Run
 pub mod Block
@@ -23,4 +25,5 @@ pub mod Worked
 pub mod Ties
 pub mod WorkedDrops
 pub mod WorkedCalls
+pub mod WorkedRuns
 pub mod Boundaries

@@ -1,5 +1,5 @@
--- Worked calls of every operation on the setup, neck and state of `Worked`: laying, fresh start, block and reading, accepted and refused, a run, and
--- what the answers come to. The numbers are from an implementation in exact fractions that was written from 01.
+-- Worked calls of every operation on the setup, neck and state of `Worked`: laying, fresh start, block and reading, accepted and refused, and what
+-- the answers come to. The numbers are from an implementation in exact fractions that was written from 01.
 use mathlib.Core.Path.{_≡_, refl}
 use mathlib.Core.Bool.{Bool, true, false}
 use mathlib.Core.List.{List, [], _∷_, zipWith}
@@ -7,11 +7,10 @@ use Prim.Native.Nat.{ℕ}
 use lib.IntN.{ℤ, pos, negsuc, negℤ}
 use lib.Ieee.{Float, nan, fin, round}
 use lib.ListN.{replicate}
-use Rattle.integers.specs.Sum.{sum}
 use Rattle.model.specs.Ranges.{between, inside, displacementOk, contactOk, forceOk, heightOk}
 use Rattle.model.specs.Refusal.{accepted, refused, firstOf}
 use Rattle.model.specs.Setup.{setupRules, placeOk, lengthOk}
-use Rattle.model.specs.Differences.{plus, minus, times, D1, dot, E}
+use Rattle.model.specs.Differences.{plus, minus, times, D1}
 use Rattle.model.specs.Gradient.{gradient, root, greatest}
 use Rattle.model.specs.Rounding.{nearest, floor}
 use Rattle.model.specs.System.{rounded₁, rounded₂}
@@ -19,13 +18,12 @@ use Rattle.model.specs.State.{Lent, stateOf, put}
 use Rattle.model.specs.Neck.{neckRules, laid, lay}
 use Rattle.model.specs.Start.{startRules, fresh, start}
 use Rattle.model.specs.Step.{gradients, moves, workedStep, nextState, A, c, system, callRules, resultRules, stepRules, frame, step, clear, cleared, kept, letGo, settled, somePull, dropped, totals, pulls, left}
-use Rattle.model.specs.Energy.{storedEnergy, loss, released, work, residuals, limits, dotAll, roundingWork, roundingLimit}
+use Rattle.model.specs.Energy.{limits}
 use Rattle.model.specs.Fraction.{fraction}
 use Rattle.model.specs.Block.{block, blockRules, play}
 use Rattle.model.specs.Reading.{reading, readingRules}
-use Rattle.model.specs.Run.{Voice, voice, energyOf, Call, history, acceptedSteps, voiceAfter, sumOver}
 use Rattle.model.specs.Answers.{setupResult, neckResult, startResult, stepResult, blockResult, readingResult}
-use Rattle.model.specs.Bench.{benchSetup, flatNeck, finger, restingFinger, onePoint, forces}
+use Rattle.model.specs.Bench.{finger, restingFinger, onePoint, forces}
 use Rattle.model.specs.declared.Reading.the-variants.{Free, Pressed, Refused}
 use Rattle.model.specs.declared.SetupAnswer.the-variants as SetupAnswer
 use Rattle.model.specs.declared.NeckAnswer.the-variants as NeckAnswer
@@ -137,23 +135,6 @@ unfolding last refusalOf stepRules callRules resultRules setupRules placeOk leng
     gradients gradient root greatest moves workedStep clear cleared kept letGo settled somePull dropped totals pulls left nextState A c system
     rounded₁ rounded₂ nearest floor plus minus times zipWith D1
 last-points-are = refl
-
--- ---- a run of the bench voice with L = 100, M = 10, S = 50 and Z = 100 whose second step is refused
-
-abbrev start-voice : Voice
-start-voice = voice (benchSetup 100 10 50 100 0) (onePoint (pos 0) (pos 0) (pos 0) 0 restingFinger)
-
-calls : List Call
-calls = history (flatNeck 0) start-voice (forces (pos 409600) (pos 777) ∷ forces (pos 2000000000) (pos 0) ∷ forces (pos 0) (pos 0) ∷ [])
-
--- work, loss, rounding work and its bound, stored energy after it
-run-is : let ts = acceptedSteps (flatNeck 0) calls in sumOver work ts ∷ sumOver loss ts ∷ sumOver roundingWork ts ∷ sumOver roundingLimit ts ∷ energyOf (voiceAfter start-voice calls) ∷ []
-    ≡ pos 80281600 ∷ pos 12927900 ∷ negℤ (pos 280680) ∷ pos 1179076 ∷ pos 67073020 ∷ []
-unfolding calls history acceptedSteps voiceAfter sumOver step stepRules callRules resultRules setupRules placeOk lengthOk between inside heightOk
-    displacementOk contactOk forceOk stateOf put workedStep clear cleared kept letGo settled somePull dropped totals pulls left nextState gradients
-    gradient root greatest moves A c system rounded₁ rounded₂ nearest floor plus minus times zipWith D1 dot E sum loss released work residuals
-    limits dotAll roundingWork roundingLimit storedEnergy
-run-is = refl
 
 -- ---- what the answers come to
 

@@ -5,7 +5,7 @@ use mathlib.Core.Bool.{true, false, not}
 use mathlib.Core.List.{List, [], _∷_, zipWith}
 use Prim.Native.Nat.{ℕ, zero, suc}
 use native.Mathlib.Omega.{arith}
-use lib.Dec.{T, ltb, eqb, lit≤, lit<}
+use lib.Dec.{T, eqb, lit≤, lit<}
 use lib.IntN.{ℤ, pos, negsuc, negℤ, natAbs}
 use lib.Signed.{leZ-yes, ltZ-yes}
 use lib.Ieee.{Float, nan, fin, round}
@@ -14,22 +14,21 @@ use mir.Facts.{eqb-no}
 use Rattle.model.specs.Fraction.{fraction}
 use Rattle.model.specs.Reading.{readingRules, reading}
 use Rattle.model.specs.Answers.{readingResult}
-use Rattle.integers.specs.Sum.{sum}
 use Rattle.model.specs.Ranges.{between, inside, displacementOk, contactOk, forceOk, heightOk}
 use Rattle.model.specs.Refusal.{_when_}
 use Rattle.model.specs.Setup.{setup, setupRules, placeOk, lengthOk}
-use Rattle.model.specs.Differences.{at, plus, minus, times, D1, dot, E}
+use Rattle.model.specs.Changes.{withTension, withPlace, bend, slide}
+use Rattle.model.specs.Differences.{plus, minus, times, D1}
 use Rattle.model.specs.Gradient.{gradient, root, greatest}
 use Rattle.model.specs.Rounding.{nearest, floor}
 use Rattle.model.specs.System.{System, rounded₁, rounded₂}
 use Rattle.model.specs.State.{State, Lent, stateOf, put, Neck, Forces, PointsAndFinger}
-use Rattle.model.specs.Step.{WorkedStep, gradients, A, c, system, moves, workedStep, nextState, callRules, resultRules, stepRules, frame, step, clear, cleared, kept, letGo, settled, somePull, dropped, totals, pulls, left}
-use Rattle.model.specs.Energy.{storedEnergy, dotAll, loss, released, work, residuals, limits, roundingWork, roundingLimit}
-use Rattle.model.specs.Run.{Voice, voice, history, acceptedSteps, voiceAfter, sumOver}
+use Rattle.model.specs.Step.{gradients, A, c, system, moves, workedStep, nextState, callRules, resultRules, stepRules, frame, step, clear, cleared, kept, letGo, settled, somePull, dropped, totals, pulls, left}
+use Rattle.model.specs.Steps.{Voice, voice, history, acceptedSteps, voiceAfter}
 use Rattle.model.specs.Block.{BlockResult, play, blockRules, block}
-use Rattle.model.specs.Bench.{benchSetup, flatNeck, finger, restingFinger, onePoint, forces}
+use Rattle.model.specs.Bench.{benchSetup, finger, onePoint, forces}
 use Rattle.model.specs.declared.Setup.{Setup}
-use Rattle.promises.specs.Promises.{Refuses, IsNearest, IsRounded, AreGradients, Clears, Solves, NonePulls, ClearsNothing, Run, flips, frameSamples, Plays, followedBy, PlaysNoPart, OddAlone, Shows, shown}
+use Rattle.promises.specs.Promises.{Refuses, IsNearest, IsRounded, AreGradients, Clears, Solves, NonePulls, flips, frameSamples, Plays, followedBy, PlaysNoPart, OddAlone, Shows, shown}
 
 -- ---- rounding
 
@@ -69,6 +68,16 @@ pair-rounded = record {
 refused-with-three : let s = benchSetup 4093 1 0 0 0 in Refuses (setupRules s) (setup s)
 unfolding setup setupRules placeOk between
 refused-with-three = (lit≤ tt, (1 when false ∷ 2 when false ∷ [], (4 when false ∷ 5 when false ∷ [], (refl, (tt, (tt, tt))))))
+
+-- a bend to that L from one that is not examined, 0, is refused so too
+bend-refused : let s = benchSetup 0 1 0 0 0 in Refuses (setupRules (withTension s 4093)) (bend s 4093)
+unfolding bend setup setupRules placeOk between
+bend-refused = (lit≤ tt, (1 when false ∷ 2 when false ∷ [], (4 when false ∷ 5 when false ∷ [], (refl, (tt, (tt, tt))))))
+
+-- a slide from place 0, which is not examined, to 2, past the string
+slide-refused : let s = withPlace (benchSetup 1 0 0 0 0) 0 in Refuses (setupRules (withPlace s 2)) (slide s 2)
+unfolding slide setup setupRules placeOk between
+slide-refused = (lit≤ tt, (1 when false ∷ 2 when false ∷ 3 when false ∷ [], (5 when false ∷ [], (refl, (tt, (tt, (tt, tt)))))))
 
 -- ---- demand 2
 
@@ -168,7 +177,7 @@ unfolding workedStep clear cleared kept letGo settled somePull dropped totals pu
     nearest floor nextState plus minus times zipWith D1
 none-pulls = record { point = by-place _ (leZ-yes tt) (leZ-yes tt) (leZ-yes tt) (λ k. leZ-yes tt); finger = leZ-yes tt }
 
--- ---- demand 3
+-- ---- a voice in contact, and a comparison by its value
 
 unfoldable pub none : Forces
 none = forces (pos 0) (pos 0)
@@ -180,62 +189,8 @@ stiffNeck = record { heights = negℤ (pos 4) ∷ []; stiffness = 65535 ∷ [] }
 unfoldable pub clinging : Voice
 clinging = voice (benchSetup 4000 0 0 0 64) (onePoint (negℤ (pos 26)) (negℤ (pos 58)) (pos 127) 0 (finger (negℤ (pos 46)) (negℤ (pos 67)) (pos 26)))
 
-abbrev benchVoice : (L M S Z K : ℕ) (w' : ℤ) → Voice
-benchVoice L M S Z K w' = record { setup = benchSetup L M S Z K; lent = onePoint (pos 0) (pos 0) (pos 0) 0 (finger (pos 0) w' (pos 0)) }
-
 pub equal : {B : Type 0} {a b : B} (n : B) → a ≡ n → b ≡ n → a ≡ b
 equal n p q = p ∙ sym q
-
--- a force or a loss that is not 0
-forced : {f : ℤ} {C : Type 0} → f ≡ pos 0 → T (ltb 0 (natAbs f)) → C
-forced {f} q t = absurd (rw q at t)
-
--- of one point
-nothing : {t : WorkedStep} → t .cleared ≡ record { points = pos 0 ∷ []; finger = pos 0 } → ClearsNothing t
-nothing q = rw q record { point = by-place _ refl refl refl (λ k. refl); finger = refl }
-
-runs :
-    -- at rest the energy is 0
-    Run (flatNeck 0) (benchVoice 4096 0 0 0 0 (pos 0)) []
-    -- a pluck of 6144 is a tie, and moves by 2: its doubled residual and its rounding work reach their limits
-    × Run (flatNeck 0) (benchVoice 4096 0 0 0 0 (pos 0)) (forces (pos 6144) (pos 0) ∷ [])
-    -- with losses, and a refused step in between
-    × Run (flatNeck 0) (benchVoice 100 10 50 100 0 (pos 0)) (forces (pos 409600) (pos 777) ∷ forces (pos 2000000000) (pos 0) ∷ none ∷ [])
-    -- lossless and unforced: the finger strikes the string, and rounding changes the stored energy, 524,288, by 512
-    × Run (flatNeck 0) (benchVoice 1 0 0 0 65535 (pos 8)) (none ∷ none ∷ none ∷ [])
-    -- lossless and unforced, and a tie: the stored energy rises from 37,748,736 by 8192, which is its bound
-    × Run (flatNeck 0) (voice (benchSetup 1 0 0 0 0) (onePoint (negℤ (pos 3072)) (negℤ (pos 3072)) (pos 0) 0 restingFinger)) (none ∷ [])
-    -- ψ = 5 is cleared at depth 0: the loss is 50
-    × Run (flatNeck 0) (voice (benchSetup 1 0 0 0 0) (onePoint (pos 0) (pos 0) (pos 5) 0 restingFinger)) (none ∷ [])
-    -- both contacts pull, and are dropped: the residuals are read without them
-    × Run stiffNeck clinging (none ∷ [])
-unfolding none stiffNeck clinging history voiceAfter acceptedSteps sumOver stateOf put storedEnergy loss released work residuals limits roundingWork roundingLimit
-    dotAll step stepRules callRules resultRules setupRules placeOk lengthOk between inside heightOk displacementOk contactOk forceOk workedStep
-    clear cleared kept letGo settled somePull dropped totals pulls left gradients gradient root greatest moves A c system rounded₁ rounded₂ nearest
-    floor nextState frame plus minus times zipWith D1 dot E sum
-runs = (
-  record { never-negative = leZ-yes tt; exact = refl; limited = tt; bounded = leZ-yes tt; conserved = λ l u. leZ-yes tt; lossless = λ l. tt },
-  record { never-negative = leZ-yes tt; exact = equal (pos 32768) refl refl; limited = (record { points = (leZ-yes tt, tt); finger = leZ-yes tt }, tt); bounded = leZ-yes tt; conserved = λ l u. forced (u .0 .pluck) tt; lossless = λ l. (nothing refl, tt) },
-  record {
-    never-negative = leZ-yes tt;
-    exact = equal (pos 67073020) refl refl;
-    limited = (record { points = (leZ-yes tt, tt); finger = leZ-yes tt }, (record { points = (leZ-yes tt, tt); finger = leZ-yes tt }, tt));
-    bounded = leZ-yes tt;
-    conserved = λ l u. forced (u .0 .pluck) tt;
-    lossless = λ l. (nothing refl, (nothing refl, tt));
-  },
-  record {
-    never-negative = leZ-yes tt;
-    exact = equal (pos 524800) refl refl;
-    limited = (record { points = (leZ-yes tt, tt); finger = leZ-yes tt }, (record { points = (leZ-yes tt, tt); finger = leZ-yes tt }, (record { points = (leZ-yes tt, tt); finger = leZ-yes tt }, tt)));
-    bounded = leZ-yes tt;
-    conserved = λ l u. leZ-yes tt;
-    lossless = λ l. (nothing refl, (nothing refl, (nothing refl, tt)));
-  },
-  record { never-negative = leZ-yes tt; exact = equal (pos 37756928) refl refl; limited = (record { points = (leZ-yes tt, tt); finger = leZ-yes tt }, tt); bounded = leZ-yes tt; conserved = λ l u. leZ-yes tt; lossless = λ l. (nothing refl, tt) },
-  record { never-negative = leZ-yes tt; exact = equal (pos 0) refl refl; limited = (record { points = (leZ-yes tt, tt); finger = leZ-yes tt }, tt); bounded = leZ-yes tt; conserved = λ l u. forced l tt; lossless = λ l. forced l tt },
-  record { never-negative = leZ-yes tt; exact = equal (pos 36368970) refl refl; limited = (record { points = (leZ-yes tt, tt); finger = leZ-yes tt }, tt); bounded = leZ-yes tt; conserved = λ l u. leZ-yes tt; lossless = λ l. (nothing refl, tt) },
-)
 
 -- ---- a block and a reading
 

@@ -1,6 +1,8 @@
 -- What is promised of the voice of documents 01 and 02: the statements, and closed instances of them.
 pub mod Promises
+pub mod Energy
 pub mod Symmetry
 mod Instances
+mod EnergyInstances
 mod PullingInstances
 mod SymmetryInstances

@@ -1,4 +1,5 @@
--- What is promised of the model, as statements only, in the terms of documents 01 and 02. Crate `laws` proves each in its file Demands.
+-- What is promised of the model, as statements only, in the terms of documents 01 and 02; demand 3 is in Energy, item 2's symmetry in Symmetry. Crate `laws`
+-- proves each in its file Demands.
 use mathlib.Core.Path.{_≡_}
 use mathlib.Core.Bool.{true, not, cond}
 use mathlib.Core.Logic.{_≢_, _⊎_}
@@ -11,16 +12,16 @@ use lib.Ieee.{Float}
 use lib.ListN.{length, take, drop, getD}
 use Rattle.integers.specs.Size.{size}
 use Rattle.model.specs.Refusal.{Rule, _when_, Answer, accepted, refused}
-use Rattle.model.specs.Setup.{N, K, p, points, setup, setupRules}
+use Rattle.model.specs.Setup.{K, p, points, setup, setupRules}
+use Rattle.model.specs.Changes.{withTension, withPlace, bend, slide}
 use Rattle.model.specs.Differences.{at}
 use Rattle.model.specs.Rounding.{nearest}
 use Rattle.model.specs.System.{System}
 use Rattle.model.specs.State.{State, Lent, byTurn, newest, stateOf, Neck, Forces, PointsAndFinger}
-use Rattle.model.specs.Neck.{Plan, fretAt, neckRules, laidResult, lay}
+use Rattle.model.specs.Neck.{Plan, fretAt, neckRules, lay}
 use Rattle.model.specs.Start.{startRules, fresh, startedResult, start}
 use Rattle.model.specs.Step.{A, c, system, gradients, WorkedStep, workedStep, nextState, callRules, stepRules, step}
-use Rattle.model.specs.Energy.{loss, work, residuals, limits, roundingWork, roundingLimit}
-use Rattle.model.specs.Run.{Voice, voice, energyOf, Call, history, acceptedSteps, voiceAfter, sumOver}
+use Rattle.model.specs.Steps.{Voice, voice, Call, history, acceptedSteps, voiceAfter}
 use Rattle.model.specs.Fraction.{Holds}
 use Rattle.model.specs.Block.{pairs, countsWrong, BlockResult, stopped, blockRules, block}
 use Rattle.model.specs.Reading.{readingRules, reading}
@@ -28,6 +29,11 @@ use Rattle.model.specs.Answers.{readingResult}
 use Rattle.model.specs.declared.Setup.{Setup}
 use Rattle.model.specs.declared.Frame.{Frame}
 use Rattle.model.specs.declared.Started.{Started}
+
+-- of a list: each in turn
+abbrev pub Every {ℓ κ} : {B : Type ℓ} → (B → Type κ) → List B → Type κ
+Every P [] = Unit
+Every P (x ∷ xs) = P x × Every P xs
 
 -- ---- demand 1: refusals
 
@@ -53,6 +59,9 @@ Leaves (refused n) before after = after ≡ before
 
 pub record Demand1 : Type 0 where
   pub setups : (s : Setup) → Refuses (setupRules s) (setup s)
+  -- 02, item 5: as a setup is, with the new value in place of the old
+  pub bends : (s : Setup) (L' : ℕ) → Refuses (setupRules (withTension s L')) (bend s L')
+  pub slides : (s : Setup) (p' : ℕ) → Refuses (setupRules (withPlace s p')) (slide s p')
   pub necks : (s : Setup) (plan : Plan) (heights : List ℤ) (stiffness : List ℕ) → let r = lay s plan heights stiffness in
       Refuses (neckRules s plan heights stiffness) (r .answer) × Leaves (r .answer) heights (r .heights) × Leaves (r .answer) stiffness (r .stiffness)
   pub starts : (s : Setup) (first second contact : List ℤ) (w w' : ℤ) → let r = start s first second contact w w' in
@@ -61,7 +70,7 @@ pub record Demand1 : Type 0 where
   -- a table gives one number: so each is given just when its condition holds and no earlier one does
   pub one-number : (rules : List Rule) (m n : ℕ) → IsFirst rules m → IsFirst rules n → m ≡ n
 
--- ---- what is accepted: the setup itself, a neck as planned, a fresh start
+-- ---- what is accepted: the setup itself, or with its new value, a neck as planned, a fresh start
 
 -- of a laid neck, at place i: a fret's point takes the tip height and the fret stiffness, every other point the board's
 pub record LaidAt (plan : Plan) (i : ℕ) (height : ℤ) (stiffness : ℕ) : Type 0 where
@@ -70,6 +79,8 @@ pub record LaidAt (plan : Plan) (i : ℕ) (height : ℤ) (stiffness : ℕ) : Typ
 
 pub record Accepts : Type 0 where
   pub setups : (s a : Setup) → setup s ≡ accepted a → a ≡ s
+  pub bends : (s a : Setup) (L' : ℕ) → bend s L' ≡ accepted a → a ≡ withTension s L'
+  pub slides : (s a : Setup) (p' : ℕ) → slide s p' ≡ accepted a → a ≡ withPlace s p'
   pub necks : (s : Setup) (plan : Plan) (heights : List ℤ) (stiffness : List ℕ) → let r = lay s plan heights stiffness in r .answer ≡ accepted tt
       → (length (r .heights) ≡ points s) × (length (r .stiffness) ≡ points s) × ((k : ℕ) → k < points s → LaidAt plan (suc k) (getD (r .heights) k (pos 0)) (getD (r .stiffness) k 0))
   pub starts : (s : Setup) (first second contact : List ℤ) (w w' : ℤ) (a : Started) → let r = start s first second contact w w' in r .answer ≡ accepted a → r ≡ startedResult (fresh s w w')
@@ -229,70 +240,6 @@ pub record NotBelow (y : State) : Type 0 where
 
 abbrev pub OnlyAbove : Type 0
 OnlyAbove = (s : Setup) (neck : Neck) (x : State) (F : Forces) → Passed (callRules s neck x F) → NotBelow (nextState (workedStep s neck x F))
-
--- ---- demand 3: the energy of a run
-
--- each in turn
-abbrev pub Every {ℓ κ} : {B : Type ℓ} → (B → Type κ) → List B → Type κ
-Every P [] = Unit
-Every P (x ∷ xs) = P x × Every P xs
-
--- as many of both, and twice each number of rs is within its number of ls
-abbrev pub EachWithin : List ℤ → List ℤ → Type 0
-EachWithin [] [] = Unit {0}
-EachWithin [] (l ∷ ls) = ⊥
-EachWithin (r ∷ rs) [] = ⊥
-EachWithin (r ∷ rs) (l ∷ ls) = (size (pos 2 *ℤ r) ≤ℤ l) × EachWithin rs ls
-
--- every doubled residual of a step is within its limit
-pub record WithinLimits (t : WorkedStep) : Type 0 where
-  pub points : EachWithin (residuals t .points) (limits t .points)
-  pub finger : size (pos 2 *ℤ residuals t .finger) ≤ℤ limits t .finger
-
--- every force of a step is 0
-pub record Unforced (t : WorkedStep) : Type 0 where
-  pub pluck : t .forces .pluck ≡ pos 0
-  pub finger : t .forces .finger ≡ pos 0
-
--- no variable other than 0 is cleared before a step
-pub record ClearsNothing (t : WorkedStep) : Type 0 where
-  pub point : (i : ℕ) → at (t .cleared .points) i ≡ pos 0
-  pub finger : t .cleared .finger ≡ pos 0
-
--- what is claimed of a run from the voice `start` to the voice `last`, whose accepted steps are `steps`
-pub record Claims (start last : Voice) (steps : List WorkedStep) : Type 0 where
-  -- the stored energy is never negative
-  pub never-negative : pos 0 ≤ℤ energyOf last
-  -- it equals starting energy + work − loss + rounding work, exactly
-  pub exact : energyOf last ≡ energyOf start +ℤ sumOver work steps -ℤ sumOver loss steps +ℤ sumOver roundingWork steps
-  -- every doubled residual is within its limit
-  pub limited : Every WithinLimits steps
-  -- so the rounding work is at most the sum of each limit times the size of its move
-  pub bounded : size (sumOver roundingWork steps) ≤ℤ sumOver roundingLimit steps
-  -- after a lossless unforced run the energy differs from the start by at most that sum
-  pub conserved : sumOver loss steps ≡ pos 0 → Every Unforced steps → size (energyOf last -ℤ energyOf start) ≤ℤ sumOver roundingLimit steps
-  -- a run that clears a variable other than 0 is not lossless
-  pub lossless : sumOver loss steps ≡ pos 0 → Every ClearsNothing steps
-
--- the claims for a list of steps from the voice v on a neck
-abbrev pub Run : Neck → Voice → List Forces → Type 0
-Run neck v Fs = let calls = history neck v Fs in Claims v (voiceAfter v calls) (acceptedSteps neck calls)
-
--- the claims hold where the setup passed 1 to 5 and both strings have its length, on any neck
-abbrev pub Runs : Type 0
-Runs = (s : Setup) (neck : Neck) (v : Lent) → Passed (setupRules s) → length (v .first) ≡ points s → length (v .second) ≡ points s → (Fs : List Forces) → Run neck (voice s v) Fs
-
--- 01's words. `Runs` asks for less: of the setup that it is accepted by the fresh start, of the neck nothing.
-abbrev pub Demand3 : Type 0
-Demand3 =
-    -- for any accepted setup,
-    (s : Setup) → setup s ≡ accepted s
-    -- any neck laid for its N, with any accepted setup that has it,
-    → (t : Setup) → setup t ≡ accepted t → N t ≡ N s → (plan : Plan) (heights : List ℤ) (stiffness : List ℕ) (neck : Neck) → lay t plan heights stiffness ≡ laidResult neck
-    -- and any fresh start accepted on it,
-    → (first second contact : List ℤ) (w w' : ℤ) (v : Lent) → start s first second contact w w' ≡ startedResult v
-    -- and for every list of steps with any forces, refused steps included
-    → (Fs : List Forces) → Run neck (voice s v) Fs
 
 -- ---- a block
 

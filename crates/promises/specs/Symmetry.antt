@@ -9,7 +9,7 @@ use Rattle.model.specs.Ranges.{all, contactOk}
 use Rattle.model.specs.Refusal.{Answer, accepted, refused}
 use Rattle.model.specs.State.{Lent, stateOf, Neck, Forces, PointsAndFinger}
 use Rattle.model.specs.Step.{workedStep}
-use Rattle.model.specs.Run.{voice, Call, history}
+use Rattle.model.specs.Steps.{voice, Call, history}
 use Rattle.model.specs.declared.Setup.{Setup}
 use Rattle.model.specs.declared.Frame.{Frame}
 use Rattle.promises.specs.Promises.{Every}

@@ -11,7 +11,7 @@ use Rattle.model.specs.Rounding.{nearest, floor}
 use Rattle.model.specs.System.{rounded₁, rounded₂}
 use Rattle.model.specs.State.{stateOf, put, Neck}
 use Rattle.model.specs.Step.{gradients, A, c, system, moves, workedStep, nextState, callRules, resultRules, stepRules, step, clear, cleared, kept, letGo, settled, somePull, dropped, totals, pulls, left}
-use Rattle.model.specs.Run.{Voice, voice, call, history}
+use Rattle.model.specs.Steps.{Voice, voice, call, history}
 use Rattle.model.specs.Bench.{benchSetup, flatNeck, finger, restingFinger, onePoint, forces}
 use Rattle.promises.specs.Symmetry.{NoContact, opposed, Contacts, Mirrored}
 use Rattle.promises.specs.Instances.{none, stiffNeck, clinging, equal}

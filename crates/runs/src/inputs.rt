@@ -1,4 +1,4 @@
-// What is drawn for a run: its setup, the board and the frets of its neck, and the forces of its frames.
+// What is drawn for a run: its setup, the board and the frets of its neck, the forces of its frames, and the tensions and places that it changes to.
 ghost use mathlib.Core.Path.{_≡_};
 ghost use Prim.Native.Nat.{_≤_, _<_};
 ghost use lib.ListN.{length};
@@ -235,4 +235,61 @@ pub fn forces(x: u32, setup: Setup, out: &mut [i32; 128]) -> u32
     let number = force.number;
     out[at] = number;
     force.next
+}
+
+// The greatest tension that stiffness and viscous loss leave room for; 1 where they leave none.
+fn greatest_tension(stiffness: u32, viscous: u32) -> u32
+    ensures { λ r. ⌜ (0 < r) × (r ≤ 4096) ⌝ }
+{
+    let taken = 4 * stiffness as u64 + 2 * viscous as u64;
+    if taken >= 4096 {
+        return 1;
+    }
+    4096 - taken as u32
+}
+
+// 0, or a tension above the greatest: one that is refused.
+fn refused_tension(x: u32, greatest: u32) -> Drawn
+    requires { ⌜ greatest ≤ 4096 ⌝ }
+{
+    let half = draw(x, 2);
+    let above = draw(half.next, 4097 - greatest);
+    Drawn {
+        number: if half.number == 0 {
+            0
+        } else {
+            greatest + 1 + above.number
+        },
+        next: above.next,
+    }
+}
+
+// A tension to bend to, in an eighth of the draws one that is refused. Where the old one is a multiple of 512 it is one too: then there are still ties.
+pub fn tension(x: u32, setup: Setup) -> Drawn {
+    let greatest = greatest_tension(setup.stiffness, setup.viscous);
+    let unit = if setup.tension % 512 == 0 { 512 } else { 1 };
+    let eighth = draw(x, 8);
+    if eighth.number == 0 {
+        return refused_tension(eighth.next, greatest);
+    }
+    let slack = draw(eighth.next, greatest);
+    Drawn {
+        number: greatest - multiple(slack.number, unit),
+        next: slack.next,
+    }
+}
+
+// A place to slide to, in an eighth of the draws an end of the string, which is refused.
+pub fn place_or_end(x: u32, segments: u32) -> Drawn {
+    let eighth = draw(x, 8);
+    if eighth.number > 0 {
+        if segments > 1 {
+            return place(eighth.next, segments);
+        }
+    }
+    let half = draw(eighth.next, 2);
+    Drawn {
+        number: if half.number == 0 { 0 } else { segments },
+        next: half.next,
+    }
 }

@@ -1,7 +1,8 @@
-// Long runs on drawn setups, necks, fingers and forces. After each stretch of 256 frames, played in blocks and single steps in turn, a line says
-// what it came to. The file stdout is written by another implementation from the same seeds.
+// Long runs on drawn setups, necks, fingers and forces, with bends and slides. After each stretch of 256 frames, played in blocks and single steps in turn,
+// a line says what it came to. The file stdout is written by another implementation from the same seeds.
 ghost use Prim.Native.Nat.{_≤_, _<_};
 
+mod changes;
 mod checksum;
 mod generator;
 mod inputs;
@@ -37,61 +38,62 @@ fn older_height(x: u32, height: u32) -> DrawnSigned
 }
 
 // Starts anew, with a drawn finger.
-fn start(setup: Setup, before: State) -> State {
+fn start(before: State) -> State {
     let height = generator::some(before.drawn, 786432);
     let older = older_height(height.next, height.number);
     let mut after = before;
     after.drawn = older.next;
-    play::start(setup, after, height.number as i32, older.number)
+    play::start(after, height.number as i32, older.number)
 }
 
 // Starts anew after 13 or 14.
-fn start_if_refused(setup: Setup, before: State) -> State {
+fn start_if_refused(before: State) -> State {
     if before.refusal <= 12 {
         return before;
     }
-    start(setup, before)
+    start(before)
 }
 
 // Starts anew in a quarter of the draws.
-fn start_at_times(setup: Setup, before: State) -> State {
+fn start_at_times(before: State) -> State {
     let quarter = generator::draw(before.drawn, 4);
     let mut after = before;
     after.drawn = quarter.next;
     if quarter.number > 0 {
         return after;
     }
-    start(setup, after)
+    start(after)
 }
 
 // 64 frames, as a block or as single steps.
-fn part(setup: Setup, heights: &[i32], stiffness: &[u16], before: State, in_block: bool) -> State {
+fn part(heights: &[i32], stiffness: &[u16], before: State, in_block: bool) -> State {
+    let setup = before.setup;
     let mut forces = [0; 128];
     let mut drawn = before;
     drawn.drawn = inputs::forces(before.drawn, setup, &mut forces);
     if in_block {
-        play::block(setup, heights, stiffness, drawn, &forces)
+        play::block(heights, stiffness, drawn, &forces)
     } else {
-        play::singles(setup, heights, stiffness, drawn, &forces)
+        play::singles(heights, stiffness, drawn, &forces)
     }
 }
 
 // 256 frames: a block, single steps, a block, single steps.
-fn stretch(setup: Setup, heights: &[i32], stiffness: &[u16], before: State) -> State {
-    let points = room::points(setup.segments);
+fn stretch(heights: &[i32], stiffness: &[u16], before: State) -> State {
+    let points = room::points(before.setup.segments);
     let mut now = before;
     for i in 0..4u32 {
-        let played = part(setup, heights, stiffness, now, i % 2 == 0);
-        now = start_if_refused(setup, state::summed(played, points));
+        let played = part(heights, stiffness, now, i % 2 == 0);
+        now = start_if_refused(state::summed(played, points));
     }
     now
 }
 
 // The stretches of a run, from a fresh start; in a quarter of the draws one is preceded by another.
 fn stretches(run: u32, setup: Setup, heights: &[i32], stiffness: &[u16], drawn: u32) {
-    let mut now = start(setup, state::none(drawn));
+    let mut now = start(state::none(drawn, setup));
     for i in 0..21 {
-        now = stretch(setup, heights, stiffness, start_at_times(setup, now));
+        now = stretch(heights, stiffness, start_at_times(now));
         report::stretch(run, i, now);
     }
 }

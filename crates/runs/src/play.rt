@@ -1,15 +1,16 @@
-// Calls of the voice in a run: the fresh start, a block and a step, each on what the state has.
+// Calls of the voice in a run: the fresh start, a block and a step, each on what the state has, with the newest setup.
 ghost use Prim.Native.Nat.{_<_};
+use crate::changes::change_at_times;
 use crate::room::points;
 use crate::state;
 use crate::state::State;
-use voice::Setup;
 use voice::fresh_start;
 use voice::play_block;
 use voice::step;
 
 // Starts anew.
-pub fn start(setup: Setup, before: State, height: i32, older: i32) -> State {
+pub fn start(before: State, height: i32, older: i32) -> State {
+    let setup = before.setup;
     let points = points(setup.segments);
     let mut first = state::first(before);
     let mut second = state::second(before);
@@ -26,13 +27,8 @@ pub fn start(setup: Setup, before: State, height: i32, older: i32) -> State {
 }
 
 // 64 frames as one block.
-pub fn block(
-    setup: Setup,
-    heights: &[i32],
-    stiffness: &[u16],
-    before: State,
-    forces: &[i32; 128],
-) -> State {
+pub fn block(heights: &[i32], stiffness: &[u16], before: State, forces: &[i32; 128]) -> State {
+    let setup = before.setup;
     let points = points(setup.segments);
     let mut first = state::first(before);
     let mut second = state::second(before);
@@ -60,7 +56,6 @@ pub fn block(
 
 // One frame of 64 as a step.
 fn single(
-    setup: Setup,
     heights: &[i32],
     stiffness: &[u16],
     before: State,
@@ -70,6 +65,7 @@ fn single(
 ) -> State
     requires { ⌜ frame < 64 ⌝ }
 {
+    let setup = before.setup;
     let points = points(setup.segments);
     let mut first = state::first(before);
     let mut second = state::second(before);
@@ -94,21 +90,14 @@ fn single(
     )
 }
 
-// 64 frames as single steps; one that is refused does not end them.
-pub fn singles(
-    setup: Setup,
-    heights: &[i32],
-    stiffness: &[u16],
-    before: State,
-    forces: &[i32; 128],
-) -> State {
+// 64 frames as single steps, before some of them a bend or a slide; one that is refused does not end them.
+pub fn singles(heights: &[i32], stiffness: &[u16], before: State, forces: &[i32; 128]) -> State {
     let mut now = before;
     for i in 0..64 {
         now = single(
-            setup,
             heights,
             stiffness,
-            now,
+            change_at_times(now),
             forces[2 * i],
             forces[2 * i + 1],
             i,

@@ -33,6 +33,15 @@ fn labelled(label: &[u8], number: u32) {
     printing::unsigned(number as u64);
 }
 
+fn refusals(state: State) {
+    labelled(b" refused ", state.tensions_refused);
+    labelled(b" ", state.sums_refused);
+    labelled(b" ", state.places_refused);
+    labelled(b" ", state.forces_refused);
+    labelled(b" ", state.displacements_refused);
+    labelled(b" ", state.contacts_refused);
+}
+
 fn strings_and_finger(state: State) {
     let first = state.first;
     let second = state.second;
@@ -50,17 +59,21 @@ fn last_samples(state: State) {
     printing::single_list(&samples[126..]);
 }
 
+fn checksum(sum: u32) {
+    printing::text(b" checksum ");
+    io::print_hex(1, sum as u64, 8);
+}
+
 pub fn stretch(run: u32, stretch: u32, state: State) {
     labelled(b"run ", run);
     labelled(b" stretch ", stretch);
     labelled(b" steps ", state.steps);
-    labelled(b" refused ", state.forces_refused);
-    labelled(b" ", state.displacements_refused);
-    labelled(b" ", state.contacts_refused);
+    refusals(state);
+    labelled(b" tension ", state.setup.tension);
+    labelled(b" place ", state.setup.finger.place);
     strings_and_finger(state);
     labelled(b" turn ", state.turn);
     last_samples(state);
-    printing::text(b" checksum ");
-    io::print_hex(1, state.checksum as u64, 8);
+    checksum(state.checksum);
     printing::text(b"\n");
 }

@@ -7,11 +7,14 @@ use crate::room;
 use std::num::wrapping_add_u32;
 use voice::BlockAnswer;
 use voice::Finger;
+use voice::Setup;
+use voice::SetupAnswer;
 use voice::StartAnswer;
 use voice::StepAnswer;
 
 pub struct State {
     pub drawn: u32, // by the generator
+    pub setup: Setup, // the newest
     pub first: [i32; 127], // a shorter string has its points in front
     pub second: [i32; 127],
     pub contact: [i32; 127],
@@ -19,6 +22,9 @@ pub struct State {
     pub turn: u32,
     pub finger: Finger,
     pub steps: u32, // accepted
+    pub tensions_refused: u32, // bends refused with 2
+    pub sums_refused: u32, // with 3
+    pub places_refused: u32, // slides refused with 4
     pub forces_refused: u32, // steps refused with 12
     pub displacements_refused: u32, // with 13
     pub contacts_refused: u32, // with 14
@@ -27,9 +33,10 @@ pub struct State {
 }
 
 // Nothing yet.
-pub fn none(drawn: u32) -> State {
+pub fn none(drawn: u32, setup: Setup) -> State {
     State {
         drawn,
+        setup,
         first: [0; 127],
         second: [0; 127],
         contact: [0; 127],
@@ -41,6 +48,9 @@ pub fn none(drawn: u32) -> State {
             contact: 0,
         },
         steps: 0,
+        tensions_refused: 0,
+        sums_refused: 0,
+        places_refused: 0,
         forces_refused: 0,
         displacements_refused: 0,
         contacts_refused: 0,
@@ -110,6 +120,9 @@ fn after_refusal(before: State, refusal: u32) -> State {
     let mut after = before;
     after.refusal = refusal;
     after.checksum = checksum::word(before.checksum, refusal);
+    after.tensions_refused = wrapping_add_u32(before.tensions_refused, (refusal == 2) as u32);
+    after.sums_refused = wrapping_add_u32(before.sums_refused, (refusal == 3) as u32);
+    after.places_refused = wrapping_add_u32(before.places_refused, (refusal == 4) as u32);
     after.forces_refused = wrapping_add_u32(before.forces_refused, (refusal == 12) as u32);
     after.displacements_refused = wrapping_add_u32(
         before.displacements_refused,
@@ -117,6 +130,18 @@ fn after_refusal(before: State, refusal: u32) -> State {
     );
     after.contacts_refused = wrapping_add_u32(before.contacts_refused, (refusal == 14) as u32);
     after
+}
+
+// After a bend or a slide.
+pub fn after_change(before: State, answer: SetupAnswer) -> State {
+    match answer {
+        SetupAnswer::Accepted(setup) => {
+            let mut after = after_refusal(before, 0);
+            after.setup = setup;
+            after
+        }
+        SetupAnswer::Refused(number) => after_refusal(before, number),
+    }
 }
 
 // After a block that wrote these samples.

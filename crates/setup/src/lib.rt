@@ -1,6 +1,8 @@
-// 01, 'Setup': the eleven numbers of a setup are examined, 1 to 5. One function for each row of the table.
+// 01, 'Setup': the eleven numbers of a setup are examined, 1 to 5. One function for each row of the table. A bend and a slide are examined in the same way.
+pub mod bend;
 pub mod coefficients;
 pub mod places;
+pub mod slide;
 
 ghost use mathlib.Core.Path.{_≡_};
 ghost use Rattle.model.specs.Answers.{setupResult};

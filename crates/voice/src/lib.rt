@@ -3,6 +3,10 @@
 // 01, 'Setup': examines a setup.
 pub use setup::check_setup;
 
+// 02, item 5: the setup with another tension, and with the finger at another place.
+pub use setup::bend::bend;
+pub use setup::slide::slide;
+
 // 01, 'Laying the neck': writes heights and stiffness from the board and the frets.
 pub use neck::lay_neck;
 

@@ -5,10 +5,10 @@ use Rattle.runs.proofs.stretch.Statement.{statement}
 use Rattle.runs.proofs.stretch.Tie as tie
 
 abbrev Inv-loop : tie.InvT-loop
-Inv-loop setup heights stiffness points now₀ i₀ now i = Unit {0}
+Inv-loop heights stiffness points now₀ i₀ now i = Unit {0}
 
 abbrev μ-loop : tie.MeasureT-loop
-μ-loop setup heights stiffness points now₀ i₀ now i = 4 - i
+μ-loop heights stiffness points now₀ i₀ now i = 4 - i
 
 pub stretch-spec : {M : Type 1} → statement M
 stretch-spec =

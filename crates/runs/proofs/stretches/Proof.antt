@@ -5,10 +5,10 @@ use Rattle.runs.proofs.stretches.Statement.{statement}
 use Rattle.runs.proofs.stretches.Tie as tie
 
 abbrev Inv-loop : tie.InvT-loop
-Inv-loop run setup heights stiffness drawn now₀ i₀ now i = Unit {0}
+Inv-loop run heights stiffness drawn now₀ i₀ now i = Unit {0}
 
 abbrev μ-loop : tie.MeasureT-loop
-μ-loop run setup heights stiffness drawn now₀ i₀ now i = 21 - i
+μ-loop run heights stiffness drawn now₀ i₀ now i = 21 - i
 
 pub stretches-spec : {M : Type 1} → statement M
 stretches-spec =

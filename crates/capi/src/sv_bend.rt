@@ -1,0 +1,17 @@
+// A bend, for C.
+ghost use mathlib.Core.Path.{_≡_};
+ghost use Rattle.model.specs.Changes as Changes;
+ghost use Rattle.capi.specs.Rows.{changedRow, setupOf};
+use crate::changed_row::ChangedRow;
+use crate::changed_row::changed_row;
+use crate::setup_row::SetupRow;
+use crate::setup_row::setup_of;
+use voice::bend;
+
+// `voice::bend`: the setup with another tension, or the refusal and the setup that was passed in.
+#[no_mangle]
+pub extern "C" fn sv_bend(setup: SetupRow, tension: u32) -> ChangedRow
+    ensures { λ r. ⌜ r ≡ changedRow setup (Changes.bend (setupOf setup) tension) ⌝ }
+{
+    changed_row(setup, bend(setup_of(setup), tension))
+}

@@ -1,0 +1,11 @@
+-- `bend` meets its contract: the changed setup is examined.
+use Rattle.model.specs.Changes.{bend}
+use Rattle.setup.proofs.bend.bend.Statement.{statement}
+use Rattle.setup.proofs.bend.bend.Tie as tie
+
+returns : tie.Need-returns
+unfolding bend
+returns c = c .check-setup .ensures
+
+pub bend-spec : {M : Type 1} → statement M
+bend-spec = tie.close (tie.spec (λ c κs. tt) returns)
