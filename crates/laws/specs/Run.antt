@@ -1,6 +1,6 @@
 -- Demand 3: the claims on the energy hold for every list of steps, bends and slides, from any strings of the setup's length, on any neck.
 use mathlib.Core.Path.{_≡_, refl, sym, _∙_, ap, ap₂, subst}
-use mathlib.Core.List.{List, [], _∷_}
+use mathlib.Core.List.{List, [], _∷_, _++_}
 use Prim.Native.Nat.{ℕ, zero, suc}
 use lib.IntN.{ℤ, pos, natAbs, _+ℤ_, _-ℤ_, _*ℤ_}
 use lib.Signed.{_≤ℤ_}
@@ -9,7 +9,7 @@ use Rattle.integers.specs.Solve.{_⊕_, _⊖_, _⊗_, #_, _≐_, solve}
 use Rattle.integers.specs.Order.{≤-refl, ≤-trans, ≤-of-eq, ≤-sum, times-≤, nonneg}
 use Rattle.integers.specs.Size.{size, size-add, size-mul}
 use Rattle.model.specs.Refusal.{Answer, accepted, refused}
-use Rattle.model.specs.Setup.{e, points}
+use Rattle.model.specs.Setup.{e, points, setup}
 use Rattle.model.specs.Differences.{at, dot}
 use Rattle.model.specs.State.{State, Lent, byTurn, stateOf, put, Neck, Forces}
 use Rattle.model.specs.Step.{clear, WorkedStep, workedStep, nextState, step}
@@ -17,7 +17,7 @@ use Rattle.model.specs.Energy as Energy
 use Rattle.model.specs.Energy.{storedEnergy, released, dotAll, residuals, limits}
 use Rattle.model.specs.Steps.{Voice, voice, after, call, history, acceptedSteps, voiceAfter}
 use Rattle.model.specs.Changes.{withTension, withPlace, bend, slide}
-use Rattle.model.specs.Run.{energyOf, Request, toStep, toBend, toSlide, Entry, stepped, bent, slid, taken, entries, lastVoice, work, loss, roundingWork, roundingLimit, total}
+use Rattle.model.specs.Run.{energyOf, Request, toStep, toBend, toSlide, Entry, stepped, bent, slid, changed, taken, entries, lastVoice, work, loss, roundingWork, roundingLimit, total}
 use Rattle.model.specs.declared.Setup.{Setup}
 use Rattle.model.specs.declared.Frame.{Frame}
 use Rattle.promises.specs.Promises.{Every}
@@ -136,28 +136,21 @@ module _ (neck : Neck) where
       go (accepted f) q = let k = accepted-step s neck v F f q in rw q (one (step-balance k) (step-limits k) (rest s (step s neck v F .lent) ok (fitting-step s neck v F f q h)))
       go (refused n) q = let same = step-refused s neck v F n q in rw q (from same (rest s (step s neck v F .lent) ok (rw same h)))
 
-  after-bend : (L' : ℕ) (qs : List Request) → Everywhere qs → Everywhere (toBend L' ∷ qs)
-  unfolding entries lastVoice taken bend
-  after-bend L' qs rest s v ok h = go (bend s L') refl
-    where
-      go : (a : Answer Setup) → bend s L' ≡ a → Run neck (voice s v) (toBend L' ∷ qs)
-      go (accepted s') q = let (facts, e) = setup-examined (withTension s L') s' q in rw (q, e) (one (bend-balance s L' (stateOf v)) tt (rest (withTension s L') v facts (fitting-other refl h)))
-      go (refused n) q = rw q (rest s v ok h)
-
-  after-slide : (p' : ℕ) (qs : List Request) → Everywhere qs → Everywhere (toSlide p' ∷ qs)
-  unfolding entries lastVoice taken slide
-  after-slide p' qs rest s v ok h = go (slide s p') refl
-    where
-      go : (a : Answer Setup) → slide s p' ≡ a → Run neck (voice s v) (toSlide p' ∷ qs)
-      go (accepted s') q = let (facts, e) = setup-examined (withPlace s p') s' q in rw (q, e) (one (slide-balance s p' (stateOf v)) tt (rest (withPlace s p') v facts (fitting-other refl h)))
-      go (refused n) q = rw q (rest s v ok h)
+  -- a change of the setup s to t, accepted or refused, which is entered as e
+  module _ (s t : Setup) (v : Lent) (e : Entry) (same : points s ≡ points t) (gain : storedEnergy t (stateOf v) ≡ storedEnergy s (stateOf v) +ℤ work e -ℤ loss e +ℤ roundingWork e) (within : OfStep WithinLimits e) where
+    after-change : (qs : List Request) → Everywhere qs → SetupFacts s → Fitting s v → let k = changed (voice s v) e (setup t) in Claims (voice s v) (lastVoice neck (k .after) qs) (k .entries ++ entries neck (k .after) qs)
+    after-change qs rest ok h = go (setup t) refl
+      where
+        go : (a : Answer Setup) → setup t ≡ a → let k = changed (voice s v) e a in Claims (voice s v) (lastVoice neck (k .after) qs) (k .entries ++ entries neck (k .after) qs)
+        go (accepted t') q = let (facts, same-setup) = setup-examined t t' q in rw same-setup (one gain within (rest t v facts (fitting-other same h)))
+        go (refused n) q = rest s v ok h
 
   pub run : (qs : List Request) → Everywhere qs
-  unfolding entries lastVoice
+  unfolding entries lastVoice taken bend slide
   run [] = λ s v ok h. none (voice s v) (energy-nonneg s (stateOf v) (spans-newer h) (spans-older h) (ok .stable))
   run (toStep F ∷ qs) = after-step F qs (run qs)
-  run (toBend L' ∷ qs) = after-bend L' qs (run qs)
-  run (toSlide p' ∷ qs) = after-slide p' qs (run qs)
+  run (toBend L' ∷ qs) = λ s v. after-change s (withTension s L') v (bent record { setup = s; tension = L'; state = stateOf v }) refl (bend-balance s L' (stateOf v)) tt qs (run qs)
+  run (toSlide p' ∷ qs) = λ s v. after-change s (withPlace s p') v slid refl (slide-balance s p' (stateOf v)) tt qs (run qs)
 
 -- ---- steps alone
 
