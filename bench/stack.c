@@ -13,6 +13,7 @@ static ucontext_t here, there;
 
 static const sv_setup setup = {128, 2000, 100, 50, 20, 500, 4096, 42, 64, 126, 85};
 static const sv_finger finger = {1000, 1000, 0};
+static const sv_book book;
 static int32_t board[POINTS], heights[POINTS], first[POINTS], second[POINTS], contact[POINTS], forces[2 * STEPS];
 static uint16_t stiffness[POINTS];
 static float samples[2 * STEPS];
@@ -31,6 +32,13 @@ static void step(void)
 {
     refusal = sv_step(setup, heights, POINTS, stiffness, POINTS, first, POINTS, second, POINTS, contact, POINTS, 0, finger, 9000000, 0).refusal;
 }
+
+static void step_booked(void)
+{
+    refusal = sv_step_booked(setup, heights, POINTS, stiffness, POINTS, first, POINTS, second, POINTS, contact, POINTS, 0, finger, 9000000, 0, book).refusal;
+}
+
+static void bend_booked(void) { refusal = sv_bend_booked(setup, 2500, first, POINTS, second, POINTS, contact, POINTS, 0, finger, book).refusal; }
 
 static void block(void)
 {
@@ -59,7 +67,8 @@ int main(void)
         const char *name;
         void (*call)(void);
     } calls[] = {{"sv_check_setup", check_setup}, {"sv_bend", bend}, {"sv_slide", slide}, {"sv_lay_neck", lay_neck}, {"sv_fresh_start", fresh_start},
-                 {"sv_newest", newest}, {"sv_step", step}, {"sv_play_block", block}, {"sv_read_place", read_place}};
+                 {"sv_newest", newest}, {"sv_step", step}, {"sv_step_booked", step_booked}, {"sv_bend_booked", bend_booked}, {"sv_play_block", block},
+                 {"sv_read_place", read_place}};
     size_t none = used_by(nothing);
     printf("| function | stack, bytes |\n|---|---|\n");
     for (size_t i = 0; i < sizeof calls / sizeof *calls; i++) {

@@ -1,6 +1,6 @@
 /* How long one step takes, alone and in a block: the product beside plain C of the same scheme with the same refusals, and beside double precision
-   without any; free and in contact, for several N. Each is timed in many short stretches that alternate. The whole-number voices must agree in every bit,
-   and on a free string the double-precision ones nearly. */
+   without any; and a booked step beside one without a book; free and in contact, for several N. Each is timed in many short stretches that alternate. The
+   whole-number voices must agree in every bit, and on a free string the double-precision ones nearly. */
 #include <math.h>
 #include <stdio.h>
 #include <stdlib.h>
@@ -49,16 +49,17 @@ typedef struct {
     float samples[2 * STEPS];
 } double_voice;
 
-/* A scene, its voices (first those that make single steps, then those that play blocks), and what came of it. */
+/* A scene, its voices (first those that make single steps, then those that play blocks; and one whose single steps are booked), and what came of it. */
 typedef struct {
     sv_setup setup;
     enum contacts contacts;
     int32_t heights[127];
     uint16_t stiffness[127];
     double double_heights[127], double_stiffness[127];
-    voice whole[2][WHOLE];
+    voice whole[2][WHOLE], booked;
+    sv_book book;
     double_voice real[2][REAL];
-    double best[2][KINDS][CYCLE]; /* ns a step */
+    double best[2][KINDS][CYCLE], best_booked[CYCLE]; /* ns a step */
     long pressed, double_pressed, looked_at; /* points, after each stretch */
     double loudest, apart; /* samples */
 } scene;
@@ -95,6 +96,23 @@ static void whole_steps(scene *c, int kind, voice *v, const int32_t *forces)
                                   forces[2 * j], forces[2 * j + 1]);
         if (r.refusal)
             fail("a step is refused");
+        v->turn = r.turn;
+        v->finger = r.finger;
+        v->samples[2 * j] = r.frame.bridge;
+        v->samples[2 * j + 1] = r.frame.neck;
+    }
+}
+
+static void booked_steps(scene *c, const int32_t *forces)
+{
+    size_t n = c->setup.segments - 1;
+    voice *v = &c->booked;
+    for (int j = 0; j < STEPS; j++) {
+        sv_booked r = sv_step_booked(c->setup, c->heights, n, c->stiffness, n, v->first, n, v->second, n, v->contact, n, v->turn, v->finger,
+                                     forces[2 * j], forces[2 * j + 1], c->book);
+        if (r.refusal)
+            fail("a booked step is refused");
+        c->book = r.book;
         v->turn = r.turn;
         v->finger = r.finger;
         v->samples[2 * j] = r.frame.bridge;
@@ -144,12 +162,21 @@ static double stretch(scene *c, int blocks, int kind, const int32_t *forces)
     return (nanoseconds() - start) / STEPS;
 }
 
+static double booked_stretch(scene *c, const int32_t *forces)
+{
+    double start = nanoseconds();
+    booked_steps(c, forces);
+    return (nanoseconds() - start) / STEPS;
+}
+
 static void compare(scene *c)
 {
     const voice *product = &c->whole[0][0];
     for (int k = 1; k < 2 * WHOLE; k++)
         if (memcmp(product, &c->whole[k / WHOLE][k % WHOLE], sizeof *product))
             fail("the whole-number voices differ");
+    if (memcmp(product, &c->booked, sizeof *product))
+        fail("the booked voice differs");
     for (int k = 0; k < 2 * REAL; k++)
         for (int j = 0; j < 2 * STEPS; j++) {
             c->loudest = fmax(c->loudest, fabs(product->samples[j]));
@@ -170,16 +197,20 @@ static void count_pressed(scene *c)
     }
 }
 
+static void keep_best(double *best, double taken, int timed)
+{
+    if (timed && taken < *best)
+        *best = taken;
+}
+
 /* One stretch of every voice. */
 static void round_of(scene *c, int phase, int timed)
 {
     int32_t forces[2 * STEPS];
     forces_of(c, phase, forces);
-    for (int k = 0; k < 2 * KINDS; k++) {
-        double taken = stretch(c, k / KINDS, k % KINDS, forces), *best = &c->best[k / KINDS][k % KINDS][phase];
-        if (timed && taken < *best)
-            *best = taken;
-    }
+    for (int k = 0; k < 2 * KINDS; k++)
+        keep_best(&c->best[k / KINDS][k % KINDS][phase], stretch(c, k / KINDS, k % KINDS, forces), timed);
+    keep_best(&c->best_booked[phase], booked_stretch(c, forces), timed);
     compare(c);
     count_pressed(c);
 }
@@ -220,8 +251,9 @@ static void lay_out(scene *c, uint32_t segments, enum contacts contacts)
             else
                 c->real[blocks][k - WHOLE].finger = (double_finger){finger, finger, 0};
             for (int phase = 0; phase < CYCLE; phase++)
-                c->best[blocks][k][phase] = 1e18;
+                c->best[blocks][k][phase] = c->best_booked[phase] = 1e18;
         }
+    c->booked.finger = (sv_finger){finger, finger, 0};
 }
 
 /* Plays the scenes in turn, a cycle of each, so that a disturbance meets all of them. */
@@ -236,25 +268,34 @@ static void play(scene *scenes)
             fail("double precision is too far from the product");
 }
 
-/* A row: the mean over a cycle of each stretch's best time, and the product's ratios to the others. */
+/* Over a cycle, of each stretch's best time. */
+static double mean(const double *best)
+{
+    double sum = 0;
+    for (int phase = 0; phase < CYCLE; phase++)
+        sum += best[phase];
+    return sum / CYCLE;
+}
+
+/* A row: the times, and the product's ratios to the others; of single steps the booked one too, and its ratio to the product's. */
 static void row(const scene *c, int blocks)
 {
-    double mean[KINDS] = {0};
-    for (int k = 0; k < KINDS; k++)
-        for (int phase = 0; phase < CYCLE; phase++)
-            mean[k] += c->best[blocks][k][phase] / CYCLE;
+    double product = mean(c->best[blocks][0]), booked = mean(c->best_booked);
     printf("| %u | %s | %.0f %% |", c->setup.segments, names[c->contacts], 100.0 * c->pressed / c->looked_at);
     for (int k = 0; k < KINDS; k++)
-        printf(" %.0f |", mean[k]);
+        printf(" %.0f |", mean(c->best[blocks][k]));
     for (int k = 1; k < KINDS; k++)
-        printf(" %.2f |", mean[0] / mean[k]);
+        printf(" %.2f |", product / mean(c->best[blocks][k]));
+    if (!blocks)
+        printf(" %.0f | %.2f |", booked, booked / product);
     printf("\n");
 }
 
 static void table(const scene *scenes, int blocks)
 {
-    printf("%s\n\n| N | scene | pressed | product, ns | C -O2 | C -O3 | double -O2 | double -O3 | ratio to C -O2 | to C -O3 | to double -O2 | to double -O3 |\n"
-           "|---|---|---|---|---|---|---|---|---|---|---|---|\n", blocks ? "A step in a block of 64:" : "A step by itself:");
+    printf("%s\n\n| N | scene | pressed | product, ns | C -O2 | C -O3 | double -O2 | double -O3 | ratio to C -O2 | to C -O3 | to double -O2 | to double -O3 |%s\n"
+           "|---|---|---|---|---|---|---|---|---|---|---|---|%s\n", blocks ? "A step in a block of 64:" : "A step by itself:",
+           blocks ? "" : " booked, ns | ratio to a step |", blocks ? "" : "---|---|");
     for (int i = 0; i < SCENES * SIZES; i++)
         row(&scenes[i], blocks);
     printf("\n");

@@ -1,6 +1,7 @@
 /* Drawn arguments, in order and changed. */
 #include "arguments.h"
 #include <string.h>
+#include "book.h"
 #include "draw.h"
 #include "rules.h"
 
@@ -238,7 +239,7 @@ static void draw_contacts(lent *buffer)
         contact[i] = ends ? (one_in(2) ? size : -size) : draw_between(-size, size);
 }
 
-/* Mostly lower than the string at its place, where it presses. */
+/* Mostly lower than the string at its place, where it presses; at times from one end of its range at the other. */
 static void draw_finger(voice *v)
 {
     const lent *newer = v->turn == 0 ? v->first : v->second;
@@ -247,6 +248,10 @@ static void draw_finger(voice *v)
     v->finger.newer = one_in(4) ? draw_either(DISPLACEMENT) : within((int64_t)beside - draw_size(DISPLACEMENT), DISPLACEMENT);
     v->finger.older = one_in(4) ? draw_either(DISPLACEMENT) : within((int64_t)v->finger.newer - draw_either(DISPLACEMENT / 2), DISPLACEMENT);
     v->finger.contact = draw_either(CONTACT);
+    if (one_in(16)) {
+        v->finger.newer = one_in(2) ? DISPLACEMENT : -DISPLACEMENT;
+        v->finger.older = -v->finger.newer;
+    }
 }
 
 static void change_state(voice *v)
@@ -379,4 +384,46 @@ void draw_start(int32_t *height, int32_t *older_height, unsigned changes)
         else
             put_outside(older_height, 1, -DISPLACEMENT, DISPLACEMENT);
     }
+}
+
+/* Of every size, above and below 0; often an end of the range or next to it, and a low word of zeros or of ones. */
+static wide draw_column(void)
+{
+    wide any = wide_of((sv_wide){draw(), draw()}) >> 7 >> draw_below(121), low = UINT64_MAX;
+    switch (draw_below(8)) {
+    case 0: return 0;
+    case 1: return one_in(2) ? COLUMN : -COLUMN;
+    case 2: return one_in(2) ? COLUMN - draw_below(4) : draw_below(4) - COLUMN;
+    case 3: return one_in(2) ? any | low : any & ~low;
+    default: return any;
+    }
+}
+
+/* Mostly next to the range, else any greater size or the end of 128 bits. */
+static wide draw_column_outside(void)
+{
+    wide above = COLUMN + 1;
+    switch (draw_below(4)) {
+    case 0: above += (wide)(draw() >> draw_below(64)); break;
+    case 1: above = ((wide)1 << draw_between(121, 126)) + draw_below(2); break;
+    case 2: above = (wide)(~(unsigned_wide)0 >> 1); break;
+    }
+    return one_in(2) ? above : -above - draw_below(2);
+}
+
+/* Changed: the count at its largest, a column out of its range, or both. */
+sv_book draw_book(unsigned changes)
+{
+    sv_book book;
+    sv_wide *columns[] = {&book.stored, &book.work, &book.loss, &book.rounding};
+    uint32_t counts[] = {0, 1, 0x7fffffff, UINT32_MAX - 2, UINT32_MAX - 1, (uint32_t)draw()}, which = draw_below(3);
+    memset(&book, (int)draw_below(256), sizeof book); /* the four bytes behind the count hold anything */
+    for (int i = 0; i < COLUMNS; i++)
+        *columns[i] = words_of(draw_column());
+    book.count = counts[draw_below(6)];
+    if ((changes & BOOK) && which != 0)
+        book.count = UINT32_MAX;
+    if ((changes & BOOK) && which != 1)
+        *columns[draw_below(COLUMNS)] = words_of(draw_column_outside());
+    return book;
 }

@@ -9,21 +9,8 @@
 typeof(sv_step) plain_step;
 typeof(sv_play_block) plain_block;
 
-enum { OF_SETUP = 31 << 1, OF_STATE = 1 << 6 | 1 << 7 | 1 << 11, OF_STEP = 1 << 12 | 1 << 13 | 1 << 14 };
-function_tally functions[FUNCTIONS] = {
-    {.name = "sv_check_setup", .refusals = OF_SETUP},
-    {.name = "sv_bend", .refusals = OF_SETUP},
-    {.name = "sv_slide", .refusals = OF_SETUP},
-    {.name = "sv_lay_neck", .refusals = OF_SETUP | 1 << 6 | 1 << 7 | 1 << 8 | 1 << 9},
-    {.name = "sv_fresh_start", .refusals = OF_SETUP | 1 << 6 | 1 << 10},
-    {.name = "sv_step", .refusals = OF_SETUP | OF_STATE | OF_STEP},
-    {.name = "sv_play_block", .refusals = OF_SETUP | OF_STATE | OF_STEP | 1 << 15},
-    {.name = "sv_newest", .refusals = 0},
-    {.name = "sv_read_place", .refusals = OF_SETUP | OF_STATE},
-};
 surplus_tally surpluses;
 mended_tally mended;
-static function_tally *current;
 
 /* A second set of strings and contact variables, for steps that are made on a copy. */
 static lent copied_first, copied_second, copied_contact;
@@ -35,42 +22,7 @@ void calls_open(void)
     lent_open(&copied_contact, "contact, copied", sizeof(int32_t));
 }
 
-static void begin(int function, sv_setup setup)
-{
-    current = &functions[function];
-    next_call(current->name, setup);
-}
-
-static void same(const char *what, long long answered, long long expected)
-{
-    if (answered != expected)
-        fault("%s %lld, expected %lld", what, answered, expected);
-}
-
-static void same_bits(const char *what, const void *answered, const void *expected, size_t bytes)
-{
-    uint64_t bits[2] = {0, 0};
-    memcpy(&bits[0], answered, bytes);
-    memcpy(&bits[1], expected, bytes);
-    if (bits[0] != bits[1])
-        fault("%s of bits %llx, expected %llx", what, (unsigned long long)bits[0], (unsigned long long)bits[1]);
-}
-
-static void same_finger(sv_finger answered, sv_finger expected)
-{
-    same("the finger's newer height", answered.newer, expected.newer);
-    same("the finger's older height", answered.older, expected.older);
-    same("the finger's contact variable", answered.contact, expected.contact);
-}
-
-/* Every call is counted by its refusal, once that is found right. */
-static void same_refusal(uint32_t answered, uint32_t expected)
-{
-    same("refusal", answered, expected);
-    current->answered[answered]++;
-}
-
-static void voice_agrees(const voice *v)
+void voice_agrees(const voice *v)
 {
     lent_agree(v->heights);
     lent_agree(v->stiffness);
@@ -79,34 +31,12 @@ static void voice_agrees(const voice *v)
     lent_agree(v->contact);
 }
 
-/* Whose pages a call is given. */
-typedef enum { LIBRARY, ORACLE } side;
-
-static void *given(side whose, const lent *buffer) { return whose == LIBRARY ? lent_numbers(buffer) : lent_oracle(buffer); }
-
-static const void *shown(side whose, const lent *buffer) { return whose == LIBRARY ? lent_shown(buffer) : lent_oracle(buffer); }
-
 uint32_t call_check_setup(sv_setup setup)
 {
     begin(CHECK_SETUP, setup);
     uint32_t answered = sv_check_setup(setup);
     same_refusal(answered, rule_check_setup(setup));
     return answered;
-}
-
-static void same_setup(sv_setup answered, sv_setup expected)
-{
-    same("segments", answered.segments, expected.segments);
-    same("tension", answered.tension, expected.tension);
-    same("stiffness", answered.stiffness, expected.stiffness);
-    same("viscous loss", answered.viscous, expected.viscous);
-    same("plain loss", answered.plain, expected.plain);
-    same("the finger's stiffness", answered.finger_stiffness, expected.finger_stiffness);
-    same("the finger's mass", answered.finger_mass, expected.finger_mass);
-    same("the finger's place", answered.finger_place, expected.finger_place);
-    same("the pluck's place", answered.pluck_place, expected.pluck_place);
-    same("the bridge pickup's place", answered.bridge_place, expected.bridge_place);
-    same("the neck pickup's place", answered.neck_place, expected.neck_place);
 }
 
 /* Calls a bend or a slide; later calls on the voice get the setup that it answers. */
@@ -163,11 +93,13 @@ uint32_t call_fresh_start(voice *v, int32_t height, int32_t older_height)
     same_refusal(answered.refusal, expected.refusal);
     same("turn", answered.turn, expected.turn);
     same_finger(answered.finger, expected.finger);
+    same_book(answered.book, expected.book);
     lent_agree(v->first);
     lent_agree(v->second);
     lent_agree(v->contact);
     v->turn = answered.turn;
     v->finger = answered.finger;
+    v->book = answered.book;
     return answered.refusal;
 }
 
@@ -266,8 +198,7 @@ uint32_t call_step(voice *v, int32_t pluck, int32_t finger_force, sv_frame *fram
     same_refusal(answered.refusal, expected.refusal);
     same("turn", answered.turn, expected.turn);
     same_finger(answered.finger, expected.finger);
-    same_bits("the frame's bridge", &answered.frame.bridge, &expected.frame.bridge, sizeof expected.frame.bridge);
-    same_bits("the frame's neck", &answered.frame.neck, &expected.frame.neck, sizeof expected.frame.neck);
+    same_frame(answered.frame, expected.frame);
     voice_agrees(v);
     if (answered.refusal)
         same("turn after a refusal", answered.turn, v->turn);
@@ -281,8 +212,7 @@ uint32_t call_step(voice *v, int32_t pluck, int32_t finger_force, sv_frame *fram
     return answered.refusal;
 }
 
-/* The same voice with strings and contact variables of its own. */
-static voice copied(const voice *v)
+voice copied(const voice *v)
 {
     voice copy = *v;
     copy.first = &copied_first;
@@ -299,6 +229,12 @@ uint32_t call_step_on_copy(const voice *v, int32_t pluck, int32_t finger_force)
     voice copy = copied(v);
     sv_frame frame;
     return call_step(&copy, pluck, finger_force, &frame);
+}
+
+uint32_t refusal_by_oracle(const voice *v, int32_t pluck, int32_t finger_force)
+{
+    voice copy = copied(v);
+    return step_by(plain_step, ORACLE, &copy, pluck, finger_force).refusal;
 }
 
 static sv_played block_by(typeof(sv_play_block) *play_block, side whose, const voice *v, const lent *forces, const lent *samples)

@@ -2,17 +2,9 @@
 #ifndef CALLS_H
 #define CALLS_H
 
+#include "answers.h"
 #include "arguments.h"
 #include "equations.h"
-
-enum { CHECK_SETUP, BEND, SLIDE, LAY_NECK, FRESH_START, STEP, PLAY_BLOCK, NEWEST, READ_PLACE, FUNCTIONS, REFUSALS = 16 };
-
-typedef struct {
-    const char *name;
-    unsigned refusals;                      /* the numbers that it can give, as bits */
-    unsigned long long answered[REFUSALS];  /* calls by their refusal; 0 is accepted */
-} function_tally;
-extern function_tally functions[FUNCTIONS];
 
 /* Blocks that were begun with more samples than forces. */
 typedef struct {
@@ -28,6 +20,8 @@ typedef struct {
 extern mended_tally mended;
 
 void calls_open(void);
+void voice_agrees(const voice *v);    /* a fault unless both sides hold the same in all five buffers */
+voice copied(const voice *v);         /* the same voice with strings and contact variables of its own */
 voice_state state_of(const voice *v); /* the numbers in the library's pages, for a turn and lengths that are in order */
 given_step step_given(const voice *v, int32_t pluck, int32_t finger_force); /* for a voice that is in order; its numbers are those in the library's pages */
 
@@ -36,8 +30,9 @@ uint32_t call_lay_neck(sv_setup setup, const neck_plan *plan, lent *heights, len
 void call_newest(uint32_t turn);
 uint32_t call_read_place(const voice *v, uint32_t place);
 uint32_t call_step_on_copy(const voice *v, int32_t pluck, int32_t finger_force); /* the refusal; the voice stays as it is */
+uint32_t refusal_by_oracle(const voice *v, int32_t pluck, int32_t finger_force); /* what its oracle alone would give for a step; the library is not called */
 
-/* These go on with the voice: its setup, or its turn and finger, become those that the call answers. They answer the refusal. */
+/* These go on with the voice: its setup, its turn and finger, or its book become those that the call answers. They answer the refusal. */
 uint32_t call_bend(voice *v, uint32_t tension);
 uint32_t call_slide(voice *v, uint32_t place);
 uint32_t call_fresh_start(voice *v, int32_t height, int32_t older_height);

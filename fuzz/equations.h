@@ -2,7 +2,7 @@
 #ifndef EQUATIONS_H
 #define EQUATIONS_H
 
-#include "../host/stored_energy.h"
+#include "stored_energy.h"
 
 enum { PLACES = 129 };
 

@@ -2,6 +2,7 @@
 #include <stdio.h>
 #include <stdlib.h>
 #include <time.h>
+#include "booked.h"
 #include "bounds.h"
 #include "draw.h"
 #include "fault.h"
@@ -92,6 +93,21 @@ static void single_slide(void)
     call_slide(&v, place);
 }
 
+/* Strings, which are const, may be one buffer. */
+static void single_bend_booked(void)
+{
+    unsigned changes = draw_changes(SETUP | LENGTH | STATE | TENSION | BOOK);
+    draw_state(&v, draw_setup(&v.setup, changes), changes);
+    uint32_t tension = draw_tension(&v.setup, changes);
+    voice bent = v;
+    bent.book = draw_book(changes);
+    if (one_in(2))
+        bent.setup.tension = draw_tension(&v.setup, TENSION);
+    if (one_in(16))
+        bent.second = bent.first;
+    call_bend_booked(&bent, tension);
+}
+
 static void single_neck(void)
 {
     unsigned changes = draw_changes(SETUP | LENGTH | HEIGHT | FRETS | TIP);
@@ -104,13 +120,23 @@ static void single_start(void)
     fresh_start(draw_setup(&v.setup, changes), changes);
 }
 
+/* Booked with any book in half of the draws. */
+static void make_step(int32_t pluck, int32_t finger_force, unsigned changes)
+{
+    sv_frame frame;
+    v.book = draw_book(changes);
+    if (one_in(2))
+        call_step(&v, pluck, finger_force, &frame);
+    else
+        call_step_booked(&v, pluck, finger_force);
+}
+
 static void single_step(void)
 {
-    unsigned changes = draw_changes(SETUP | LENGTH | HEIGHT | STATE | FORCES), of_pluck = one_in(2) ? changes : 0;
+    unsigned changes = draw_changes(SETUP | LENGTH | HEIGHT | STATE | FORCES | BOOK), of_pluck = one_in(2) ? changes : 0;
     draw_voice(changes);
     int32_t pluck = draw_force(&v.setup, FORCE, of_pluck), finger_force = draw_force(&v.setup, FORCE, changes & ~of_pluck);
-    sv_frame frame;
-    call_step(&v, pluck, finger_force, &frame);
+    make_step(pluck, finger_force, changes);
 }
 
 /* Z and the finger's mass are even, as they are where a half of what divides a force is a whole number. */
@@ -125,15 +151,14 @@ static void single_tie(void)
     draw_neck(&v, points, 0);
     draw_state(&v, points, 0);
     draw_tie(&v, &pluck, &finger_force);
-    sv_frame frame;
-    call_step(&v, pluck, finger_force, &frame);
+    make_step(pluck, finger_force, 0);
 }
 
 static void single_pressed(void)
 {
-    sv_frame frame;
     draw_pressed(&v);
-    call_step(&v, draw_force(&v.setup, 200000, 0), draw_force(&v.setup, 200000, 0), &frame);
+    int32_t pluck = draw_force(&v.setup, 200000, 0), finger_force = draw_force(&v.setup, 200000, 0);
+    make_step(pluck, finger_force, 0);
 }
 
 static void single_block(void)
@@ -178,20 +203,23 @@ static void single_vast(void)
     lent_place_vast(&vast, one == &of_samples ? draw_below((uint32_t)samples.length + 1) : (*one)->length);
     *one = &vast;
     sv_frame frame;
-    switch (draw_below(5)) {
+    switch (draw_below(7)) {
     case 0: call_lay_neck(given.setup, &given_plan, given.heights, given.stiffness); break;
     case 1: call_fresh_start(&given, 0, 0); break;
     case 2: call_read_place(&given, draw_place(points, 0)); break;
     case 3: call_step(&given, 0, 0, &frame); break;
+    case 4: call_step_booked(&given, 0, 0); break;
+    case 5: call_bend_booked(&given, draw_tension(&given.setup, 0)); break;
     default: call_play_block(&given, of_forces, of_samples);
     }
 }
 
-/* The next call of a list, with forces up to a size; its refusal. Without forces bends are mostly such as are refused. */
-static uint32_t next_of_list(size_t points, uint32_t greatest)
+/* The next call of a list, with forces up to a size; its refusal. Without forces bends are mostly such as are refused. A block keeps no book: in a list that
+   is booked a step with another book stands in its place. */
+static uint32_t next_of_list(size_t points, uint32_t greatest, int booked)
 {
     unsigned changes = one_in(16) ? FORCES : 0;
-    sv_frame frame;
+    int32_t pluck = draw_force(&v.setup, greatest, changes), finger_force = draw_force(&v.setup, greatest, 0);
     switch (draw_below(16)) {
     case 0:
         return call_read_place(&v, draw_place(points, 0));
@@ -199,32 +227,35 @@ static uint32_t next_of_list(size_t points, uint32_t greatest)
         call_newest(v.turn);
         return 0;
     case 2:
+        if (booked) {
+            list_other_book(&v, draw_book(BOOK), pluck, finger_force);
+            return 0;
+        }
         draw_forces(&forces, &samples, &v.setup, 24, greatest, changes);
         return call_play_block(&v, &forces, &samples);
     case 3:
         return list_bend(&v, draw_tension(&v.setup, one_in(4) || (greatest == 0 && !one_in(8)) ? TENSION : 0));
     case 4:
         return list_slide(&v, draw_place(points, one_in(4) ? PLACE : 0));
-    default: {
-        int32_t pluck = draw_force(&v.setup, greatest, changes), finger_force = draw_force(&v.setup, greatest, 0);
-        return call_step(&v, pluck, finger_force, &frame);
-    }
+    default:
+        return list_step(&v, pluck, finger_force);
     }
 }
 
-/* A voice from its neck and its fresh start on; a quarter of them without forces, then mostly without loss. Once it leaves its range it may go on from
-   there, or end. */
+/* A voice from its neck and its fresh start on; a quarter of them without forces, then mostly without loss; half of them booked. Once it leaves its range it
+   may go on from there, or end. */
 static void list_of_calls(void)
 {
     size_t points = draw_setup(&v.setup, 0);
+    int booked = one_in(2);
     uint32_t greatest = one_in(4) ? 0 : (uint32_t)FORCE >> draw_below(18), calls = (one_in(8) ? 400 : 8) + draw_below(56), refusal = 0;
     if (greatest == 0 && !one_in(4))
         v.setup.viscous = v.setup.plain = 0;
     if (lay_neck(points, 0) || fresh_start(points, 0))
         fault("the neck or the fresh start of a list was refused");
-    list_begin(&v);
+    list_begin(&v, booked);
     for (; calls > 0 && !(refusal >= 13 && one_in(3)); calls--) {
-        refusal = next_of_list(points, greatest);
+        refusal = next_of_list(points, greatest, booked);
         list_check(&v);
         if (v.turn != 0 && one_in(4))
             v.turn = 1 + draw_below(UINT32_MAX);
@@ -237,8 +268,8 @@ static void two_runs(void) { mirrored_runs(&v); }
 static const struct {
     void (*calls)(void);
     uint32_t share;
-} kinds[] = {{single_step, 12}, {single_reading, 8}, {single_neck, 7},  {single_bound, 6}, {single_setup, 5}, {single_start, 5},  {single_pressed, 4}, {single_tie, 4},
-             {single_block, 4}, {single_bend, 3},    {single_slide, 2}, {single_vast, 1},  {two_runs, 1},     {list_of_calls, 1}, {single_newest, 1}};
+} kinds[] = {{single_step, 12},       {single_reading, 7}, {single_neck, 6}, {single_bound, 6}, {single_pressed, 5}, {single_tie, 4},    {single_block, 4}, {single_start, 4},
+             {single_bend_booked, 4}, {single_setup, 3},   {single_bend, 3}, {single_slide, 2}, {single_vast, 1},    {single_newest, 1}, {two_runs, 1},     {list_of_calls, 1}};
 
 static void draw_calls(void)
 {

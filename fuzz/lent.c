@@ -102,6 +102,8 @@ void lent_copy(lent *to, const lent *from)
     lent_settle(to);
 }
 
+void lent_expect(lent *buffer, const lent *like) { memcpy(buffer->oracle, like->page, PAGE); }
+
 static int64_t element_at(const lent *buffer, const unsigned char *page, size_t byte)
 {
     size_t at = buffer->start + (byte - buffer->start) / buffer->element * buffer->element;

@@ -23,11 +23,17 @@ void lent_place(lent *buffer, size_t length);        /* a buffer of so many elem
 void lent_place_vast(lent *buffer, size_t length);   /* a vast buffer of 2^32 elements and so many more, all zero, and settled */
 void lent_settle(lent *buffer);                      /* what the library's page holds, the oracle's shall hold too */
 void lent_copy(lent *to, const lent *from);          /* placed and filled alike, and settled */
+void lent_expect(lent *buffer, const lent *like);    /* what the library's page of a copy holds, the oracle's shall hold */
 void lent_agree(const lent *buffer);                 /* a fault unless both pages hold the same, pattern included */
 void lent_watch(void);                               /* from now on an access to a guard, or a write to what is const, is reported by the buffer's name */
 
 static inline void *lent_numbers(const lent *buffer) { return buffer->page + buffer->start; }
 static inline const void *lent_shown(const lent *buffer) { return buffer->shown + buffer->start; }
 static inline void *lent_oracle(const lent *buffer) { return buffer->oracle + buffer->start; }
+
+/* Whose pages a call is given, to be written and as const. */
+typedef enum { LIBRARY, ORACLE } side;
+static inline void *given(side whose, const lent *buffer) { return whose == LIBRARY ? lent_numbers(buffer) : lent_oracle(buffer); }
+static inline const void *shown(side whose, const lent *buffer) { return whose == LIBRARY ? lent_shown(buffer) : lent_oracle(buffer); }
 
 #endif

@@ -1,12 +1,16 @@
-/* 01, 'Energy', with 02's item 5: the energy of a whole list of calls. What its accepted steps come to is summed where each is checked, in balance.c. */
+/* 01, 'Energy', with 02's items 5 and 6: the energy of a whole list of calls, and its book. What its accepted steps come to is summed where each is checked,
+   in balance.c. */
 #include "list.h"
 #include "balance.h"
+#include "book.h"
+#include "booked.h"
 #include "fault.h"
 
 list_tally listed;
 
-/* The list: its starting energy, the sums of all steps before it, and its accepted bends and slides. */
+/* The list: whether it is booked, its starting energy, the sums of all steps before it, and its accepted bends and slides. */
 static struct {
+    int booked;
     wide start, bend_work;
     balance_tally before;
     unsigned bends, slides;
@@ -19,13 +23,15 @@ static wide stored(const voice *v)
     return stored_energy(v->setup, s.newer, s.older, s.contact, s.finger);
 }
 
-void list_begin(const voice *v)
+void list_begin(const voice *v, int booked)
 {
+    list.booked = booked;
     list.start = stored(v);
     list.before = balanced;
     list.bend_work = 0;
     list.bends = list.slides = 0;
     listed.lists++;
+    listed.books += booked != 0;
 }
 
 /* The gradients at the depths as they are. */
@@ -37,11 +43,33 @@ static equations contacts_of(const voice *v)
     return e;
 }
 
+/* A book that began at the list's fresh start is never refused. */
+static uint32_t by_own_book(uint32_t refusal)
+{
+    if (refusal >= 16)
+        fault("refusal %u for a book that began at a fresh start", refusal);
+    return refusal;
+}
+
+uint32_t list_step(voice *v, int32_t pluck, int32_t finger_force)
+{
+    sv_frame frame;
+    return list.booked ? by_own_book(call_step_booked(v, pluck, finger_force)) : call_step(v, pluck, finger_force, &frame);
+}
+
+void list_other_book(const voice *v, sv_book book, int32_t pluck, int32_t finger_force)
+{
+    voice other = *v;
+    other.book = book;
+    if (call_step_booked(&other, pluck, finger_force) >= 16)
+        listed.other_books++;
+}
+
 uint32_t list_bend(voice *v, uint32_t tension)
 {
     voice_state s = state_of(v);
     wide work = bend_work(v->setup, tension, s.newer, s.older);
-    uint32_t refusal = call_bend(v, tension);
+    uint32_t refusal = list.booked ? by_own_book(call_bend_booked(v, tension)) : call_bend(v, tension);
     if (refusal) {
         listed.bends_refused++;
         return refusal;
@@ -83,18 +111,40 @@ static int string_out(const voice *v)
 
 static wide size(wide number) { return number < 0 ? -number : number; }
 
+/* What the list comes to so far. */
+static entry sums(const voice *v)
+{
+    return (entry){stored(v), balanced.work - list.before.work + list.bend_work, balanced.loss - list.before.loss,
+                   balanced.rounding_work - list.before.rounding_work, (uint32_t)(balanced.steps - list.before.steps)};
+}
+
+/* The book must hold these sums, each column in itself. */
+static void check_book(const voice *v, entry e)
+{
+    same_book(v->book, (sv_book){words_of(e.stored), words_of(e.work), words_of(e.loss), words_of(e.rounding), e.steps});
+    listed.books_checked++;
+    listed.books_slid += list.slides > 0;
+    listed.books_bent += list.bends > 0;
+    listed.books_lost += e.loss > 0;
+    listed.books_taken += e.work < 0;
+    listed.rounded_up += e.rounding > 0;
+    listed.rounded_down += e.rounding < 0;
+}
+
 void list_check(const voice *v)
 {
-    wide now = stored(v), work = balanced.work - list.before.work + list.bend_work, loss = balanced.loss - list.before.loss;
-    wide rounding = balanced.rounding_work - list.before.rounding_work, limit = balanced.rounding_limit - list.before.rounding_limit;
-    wide over = now - (list.start + work - loss + rounding);
-    int conserved = loss == 0 && balanced.forced == list.before.forced && list.bends == 0, counts = conserved && string_out(v);
+    entry e = sums(v);
+    wide limit = balanced.rounding_limit - list.before.rounding_limit, over = e.stored - (list.start + e.work - e.loss + e.rounding);
+    int conserved = e.loss == 0 && balanced.forced == list.before.forced && list.bends == 0, counts = conserved && string_out(v);
     listed.checked++;
     listed.conserved += (unsigned)counts;
     listed.conserved_slid += counts && list.slides > 0;
-    if (over != 0 || now < 0)
-        fault("stored energy %.0Lf at the start of a list and %.0Lf now, %.0Lf more than it comes to", (long double)list.start, (long double)now, (long double)over);
-    if (size(rounding) > limit || (conserved && size(now - list.start) > limit))
-        fault("rounding work %.0Lf in a list, and stored energy %.0Lf after %.0Lf: the limits come to %.0Lf", (long double)rounding, (long double)now,
+    if (over != 0 || e.stored < 0)
+        fault("stored energy %.0Lf at the start of a list and %.0Lf now, %.0Lf more than it comes to", (long double)list.start, (long double)e.stored,
+              (long double)over);
+    if (size(e.rounding) > limit || (conserved && size(e.stored - list.start) > limit))
+        fault("rounding work %.0Lf in a list, and stored energy %.0Lf after %.0Lf: the limits come to %.0Lf", (long double)e.rounding, (long double)e.stored,
               (long double)list.start, (long double)limit);
+    if (list.booked)
+        check_book(v, e);
 }

@@ -2,6 +2,7 @@
 #include "report.h"
 #include <stdio.h>
 #include "balance.h"
+#include "booked.h"
 #include "bounds.h"
 #include "list.h"
 #include "mirror.h"
@@ -73,6 +74,30 @@ static const counted list_kinds[] = {
     {"slides accepted, the old place out of order", &mended.slides},
 };
 
+static const counted book_kinds[] = {
+    {"booked calls accepted, a column below 0", &booking.negative},
+    {"a column at an end of its range", &booking.at_end},
+    {"a high word raised by a carry", &booking.raised},
+    {"a high word lowered by a borrow", &booking.lowered},
+    {"a column out of its range after the call", &booking.left_range},
+    {"a stored energy of more than a signed word", &booking.long_stored},
+    {"a work of more than a signed word", &booking.long_work},
+    {"booked steps that make the count its largest", &booking.last_step},
+    {"with a variable cleared at a point", &booking.cleared},
+    {"with the finger's cleared", &booking.finger_cleared},
+    {"booked bends, the old tension out of order", &booking.mended},
+    {"refused, columns out of range by 1 at most", &booking.next_to_end},
+    {"lists whose steps and bends are all booked", &listed.books},
+    {"calls after which a list's book was checked", &listed.books_checked},
+    {"of these after a slide", &listed.books_slid},
+    {"of these after a bend", &listed.books_bent},
+    {"with a loss", &listed.books_lost},
+    {"with a work below 0", &listed.books_taken},
+    {"with a rounding work above 0", &listed.rounded_up},
+    {"with a rounding work below 0", &listed.rounded_down},
+    {"steps refused in a list for another book", &listed.other_books},
+};
+
 /* The tables of such numbers. */
 static const struct {
     const char *title;
@@ -81,6 +106,7 @@ static const struct {
 } tables[] = {
     {"steps by the contacts cleared and dropped", contact_kinds, sizeof contact_kinds / sizeof *contact_kinds},
     {"lists of calls, bends and slides", list_kinds, sizeof list_kinds / sizeof *list_kinds},
+    {"booked steps and bends, and books of lists", book_kinds, sizeof book_kinds / sizeof *book_kinds},
 };
 enum { TABLES = sizeof tables / sizeof *tables };
 

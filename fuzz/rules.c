@@ -1,5 +1,6 @@
-/* 01, 'What each operation turns down', 'Laying the neck', fresh start, newest string and 'reading a place'; 02, item 5, bends and slides. */
+/* 01, 'What each operation turns down', 'Laying the neck', fresh start, newest string and 'reading a place'; 02, item 5, bends and slides, and item 6, booked bends. */
 #include "rules.h"
+#include "book.h"
 
 static int in(int64_t low, int64_t number, int64_t high) { return low <= number && number <= high; }
 
@@ -9,6 +10,12 @@ static int all_in(int32_t low, const int32_t *numbers, size_t length, int32_t hi
     for (size_t i = 0; i < length; i++)
         all = all && in(low, numbers[i], high);
     return all;
+}
+
+static int state_in(size_t points, const int32_t *first, const int32_t *second, const int32_t *contact, sv_finger finger)
+{
+    return all_in(-DISPLACEMENT, first, points, DISPLACEMENT) && all_in(-DISPLACEMENT, second, points, DISPLACEMENT) && all_in(-CONTACT, contact, points, CONTACT)
+        && in(-DISPLACEMENT, finger.newer, DISPLACEMENT) && in(-DISPLACEMENT, finger.older, DISPLACEMENT) && in(-CONTACT, finger.contact, CONTACT);
 }
 
 uint32_t rule_check_setup(sv_setup s)
@@ -44,6 +51,26 @@ sv_changed rule_slide(sv_setup s, uint32_t place)
     sv_setup slid = s;
     slid.finger_place = place;
     return examined(slid, s);
+}
+
+sv_bent rule_bend_booked(sv_setup s, uint32_t tension, const int32_t *first, size_t first_length, const int32_t *second, size_t second_length,
+                         const int32_t *contact, size_t contact_length, uint32_t turn, sv_finger finger, sv_book book)
+{
+    size_t points = (size_t)s.segments - 1;
+    const int32_t *newer = turn == 0 ? first : second, *older = turn == 0 ? second : first;
+    sv_changed changed = rule_bend(s, tension);
+    sv_bent bent = {changed.refusal, s, book};
+    if (bent.refusal == 0 && (first_length != points || second_length != points || contact_length != points))
+        bent.refusal = 6;
+    if (bent.refusal == 0 && !state_in(points, first, second, contact, finger))
+        bent.refusal = 11;
+    if (bent.refusal == 0)
+        bent.refusal = column_refusal(book);
+    if (bent.refusal)
+        return bent;
+    bent.setup = changed.setup;
+    bent.book = booked(book, (entry){.stored = stored_energy(bent.setup, newer, older, contact, finger), .work = bend_work(s, tension, newer, older)});
+    return bent;
 }
 
 static int frets_right(sv_setup s, const uint32_t *frets, size_t length)
@@ -94,7 +121,7 @@ sv_started rule_fresh_start(sv_setup s, int32_t *first, size_t first_length, int
                             int32_t height, int32_t older_height)
 {
     size_t points = (size_t)s.segments - 1;
-    sv_started started = {rule_check_setup(s), 0, {0, 0, 0}};
+    sv_started started = {.refusal = rule_check_setup(s)};
     if (started.refusal == 0 && (first_length != points || second_length != points || contact_length != points))
         started.refusal = 6;
     if (started.refusal == 0 && (!in(0, height, DISPLACEMENT) || !in(-DISPLACEMENT, older_height, DISPLACEMENT)))
@@ -104,6 +131,7 @@ sv_started rule_fresh_start(sv_setup s, int32_t *first, size_t first_length, int
     for (size_t i = 0; i < points; i++)
         first[i] = second[i] = contact[i] = 0;
     started.finger = (sv_finger){height, older_height, 0};
+    started.book = booked(started.book, (entry){.stored = stored_energy(s, first, second, contact, started.finger)});
     return started;
 }
 

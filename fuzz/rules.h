@@ -1,4 +1,4 @@
-/* Documents 01 and 02 for all but step and block, written plainly: what the library's functions of the same names must answer and write. */
+/* Documents 01 and 02 for all but steps and block, written plainly: what the library's functions of the same names must answer and write. */
 #ifndef RULES_H
 #define RULES_H
 
@@ -8,6 +8,7 @@ enum { DISPLACEMENT = 1048576, CONTACT = 67108864, FORCE = 1073741824 }; /* the 
 
 typeof(sv_check_setup) rule_check_setup;
 typeof(sv_bend) rule_bend;
+typeof(sv_bend_booked) rule_bend_booked;
 typeof(sv_slide) rule_slide;
 typeof(sv_lay_neck) rule_lay_neck;
 typeof(sv_fresh_start) rule_fresh_start;

@@ -2,7 +2,7 @@
 #ifndef INSTRUMENT_H
 #define INSTRUMENT_H
 
-#include "stored_energy.h"
+#include "wide.h"
 
 enum { RATE = 44100, SEGMENTS = 90, POINTS = SEGMENTS - 1, FRETS = 22 };
 

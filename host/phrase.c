@@ -1,8 +1,9 @@
 /* Plays a phrase on one string and writes it as sound and as a picture: open, fretted, bent, slid and tapped notes, and a rattle against the frets.
 
-   Each note is a list of calls of its own, from a fresh start with the finger at its place; bends and slides are made between its blocks. The hand that
-   silences it is a greater plain loss: another setup over the same state. Demand 3 does not speak of that; the stored energy does not depend on the plain
-   loss, and goes on from where it was. */
+   Each note is a list of calls of its own, from a fresh start with the finger at its place, and has an energy book of its own: its steps are booked, and so are
+   its bends. What the player does is set for a block of steps, and bends and slides are made between two blocks. The hand that silences a note is a greater
+   plain loss: another setup over the same state. Demand 3 does not speak of that; the stored energy does not depend on the plain loss, and goes on from where
+   it was, and the book with it. */
 #include <errno.h>
 #include <math.h>
 #include <stdio.h>
@@ -15,6 +16,8 @@
 #include "refusals.h"
 #include "wav.h"
 
+#define SHEET "energy book of each note, in units of %.3g J; stored energy = work - loss + rounding work"
+
 typedef struct {
     sv_setup setup;
     int32_t heights[POINTS];
@@ -22,19 +25,21 @@ typedef struct {
     int32_t first[POINTS], second[POINTS], contact[POINTS];
     uint32_t turn;
     sv_finger finger;
+    sv_book book;
     const note *playing;
 } voice;
 
 /* What is kept of the phrase. */
 typedef struct {
-    float samples[2 * BLOCK * BLOCKS]; /* as the driver took them: FRAMES frames, then silence */
+    float samples[2 * FRAMES];
     double energy[BLOCKS];    /* joules, after each block */
     uint32_t touched[BLOCKS]; /* frets touched in each block: bit i - 1 for fret i */
     int32_t largest;          /* displacement after a block */
     uint32_t bends, slides;   /* that were made */
     uint32_t tightest;        /* tension */
     double bend_work;         /* of all bends, joules */
-    double inside;            /* seconds inside sv_play_block */
+    sv_book books[NOTES];     /* of each note, at its end */
+    double inside;            /* seconds inside sv_step_booked, the clock's own time included */
 } take;
 
 static double now(void)
@@ -60,13 +65,6 @@ static void lay_neck(voice *v)
         refused("sv_lay_neck", refusal, 0);
 }
 
-/* The newer and the older string. */
-typedef struct {
-    const int32_t *newer, *older;
-} strings;
-
-static strings strings_of(const voice *v) { return sv_newest(v->turn) == 0 ? (strings){v->first, v->second} : (strings){v->second, v->first}; }
-
 /* A fresh start where a note begins. */
 static void begin(voice *v, const note *n, double seconds)
 {
@@ -76,21 +74,21 @@ static void begin(voice *v, const note *n, double seconds)
         refused("sv_fresh_start", s.refusal, seconds);
     v->turn = s.turn;
     v->finger = s.finger;
+    v->book = s.book;
     v->playing = n;
 }
 
 /* The string bent to a tension: its energy changes at once, by the work of the bend. */
 static void bend(voice *v, take *t, uint32_t tension, double seconds)
 {
-    strings s = strings_of(v);
-    wide work = bend_work(v->setup, tension, s.newer, s.older);
-    sv_changed c = sv_bend(v->setup, tension);
-    if (c.refusal)
-        refused("sv_bend", c.refusal, seconds);
-    v->setup = c.setup;
+    sv_bent b = sv_bend_booked(v->setup, tension, v->first, POINTS, v->second, POINTS, v->contact, POINTS, v->turn, v->finger, v->book);
+    if (b.refusal)
+        refused("sv_bend_booked", b.refusal, seconds);
     t->bends++;
-    t->bend_work += joules_of_units(work);
+    t->bend_work += joules_of_units(wide_of(b.book.work) - wide_of(v->book.work));
     t->tightest = tension > t->tightest ? tension : t->tightest;
+    v->setup = b.setup;
+    v->book = b.book;
 }
 
 /* The finger slid to a place: its heights and its contact variable stay as they are. */
@@ -130,34 +128,34 @@ static uint32_t frets_pressed(const voice *v, double seconds)
     return pressed;
 }
 
-/* The frets that the string touches in a block. A contact that ends inside a block leaves no trace, so the steps are made one by one beforehand, on a copy. */
-static uint32_t frets_touched(voice copy, const int32_t *forces, size_t steps, double seconds)
+/* One step, whose frame is the sound. */
+static void step(voice *v, take *t, int32_t pluck, int32_t finger_force, size_t frame)
 {
-    uint32_t touched = 0;
-    for (size_t i = 0; i < steps; i++) {
-        sv_stepped s = sv_step(copy.setup, copy.heights, POINTS, copy.stiffness, POINTS, copy.first, POINTS, copy.second, POINTS, copy.contact, POINTS, copy.turn,
-                               copy.finger, forces[2 * i], forces[2 * i + 1]);
-        seconds += 1.0 / RATE;
-        if (s.refusal)
-            refused("sv_step", s.refusal, seconds);
-        copy.turn = s.turn;
-        copy.finger = s.finger;
-        touched |= frets_pressed(&copy, seconds);
-    }
-    return touched;
+    double start = now();
+    sv_booked b = sv_step_booked(v->setup, v->heights, POINTS, v->stiffness, POINTS, v->first, POINTS, v->second, POINTS, v->contact, POINTS, v->turn, v->finger,
+                                 pluck, finger_force, v->book);
+    t->inside += now() - start;
+    if (b.refusal)
+        refused("sv_step_booked", b.refusal, (double)frame / RATE);
+    v->turn = b.turn;
+    v->finger = b.finger;
+    v->book = b.book;
+    t->samples[2 * frame] = b.frame.bridge;
+    t->samples[2 * frame + 1] = b.frame.neck;
 }
 
 static void keep(const voice *v, take *t, size_t block)
 {
-    strings s = strings_of(v);
-    t->energy[block] = joules_of_units(stored_energy(v->setup, s.newer, s.older, v->contact, v->finger));
+    const int32_t *newest = sv_newest(v->turn) == 0 ? v->first : v->second;
+    t->energy[block] = joules_of_units(wide_of(v->book.stored));
+    t->books[v->playing - notes] = v->book;
     for (int i = 0; i < POINTS; i++)
-        if (abs(s.newer[i]) > t->largest)
-            t->largest = abs(s.newer[i]);
+        if (abs(newest[i]) > t->largest)
+            t->largest = abs(newest[i]);
 }
 
-/* The driver's buffer is lent whole, also for the shorter block; what lies past its last frame is silenced here, since it keeps its contents. */
-static void play_block(voice *v, take *t, size_t block, float driver[2 * BLOCK])
+/* A contact that ends inside a block leaves no trace, so the frets are read after each step. */
+static void play_block(voice *v, take *t, size_t block)
 {
     double seconds = start_of_block(block);
     const note *n = note_at(seconds);
@@ -165,17 +163,10 @@ static void play_block(voice *v, take *t, size_t block, float driver[2 * BLOCK])
     int32_t forces[2 * BLOCK];
     prepare(v, t, n, seconds);
     player_forces(n, seconds, v->finger, steps, forces);
-    t->touched[block] = frets_touched(*v, forces, steps, seconds);
-    double start = now();
-    sv_played p = sv_play_block(v->setup, v->heights, POINTS, v->stiffness, POINTS, v->first, POINTS, v->second, POINTS, v->contact, POINTS, v->turn, v->finger,
-                                forces, 2 * steps, driver, 2 * BLOCK);
-    t->inside += now() - start;
-    if (p.refusal)
-        refused("sv_play_block", p.refusal, seconds + (double)p.count / RATE);
-    memset(driver + 2 * p.count, 0, sizeof(float[2]) * (BLOCK - p.count));
-    memcpy(t->samples + 2 * BLOCK * block, driver, sizeof(float[2 * BLOCK]));
-    v->turn = p.turn;
-    v->finger = p.finger;
+    for (size_t i = 0; i < steps; i++) {
+        step(v, t, forces[2 * i], forces[2 * i + 1], BLOCK * block + i);
+        t->touched[block] |= frets_pressed(v, seconds + (double)(i + 1) / RATE);
+    }
     keep(v, t, block);
 }
 
@@ -208,7 +199,24 @@ static void report_note(const take *t, const note *n)
     printf(touched ? "\n" : " none\n");
 }
 
-static void report(const take *t)
+/* A note starts at rest and so without energy: what its book holds must balance from there. */
+static void check_book(const note *n, sv_book b)
+{
+    if (wide_of(b.stored) != wide_of(b.work) - wide_of(b.loss) + wide_of(b.rounding)) {
+        fprintf(stderr, "the book of %s %s at %.2f s does not balance\n", n->name, n->how, n->start);
+        exit(1);
+    }
+}
+
+static void fill_sheet(const take *t, sheet_row rows[NOTES])
+{
+    for (int i = 0; i < NOTES; i++) {
+        check_book(&notes[i], t->books[i]);
+        rows[i] = sheet_of(notes[i].name, notes[i].how, t->books[i]);
+    }
+}
+
+static void report(const take *t, const sheet_row *rows)
 {
     sv_setup s = player_setup(notes, notes[0].start);
     double bridge = 0, neck = 0;
@@ -220,26 +228,31 @@ static void report(const take *t)
            (unsigned)s.viscous, (unsigned)s.plain, (unsigned)s.finger_stiffness, (unsigned)s.finger_mass);
     for (int i = 0; i < NOTES; i++)
         report_note(t, &notes[i]);
+    printf(SHEET "\n", joules_of_units(1));
+    print_sheet_row(&sheet_heads);
+    for (int i = 0; i < NOTES; i++)
+        print_sheet_row(&rows[i]);
     printf("%u bends between L = %u and %u, which added %.1f uJ in all; %u slides\n", (unsigned)t->bends, (unsigned)s.tension, (unsigned)t->tightest,
            1e6 * t->bend_work, (unsigned)t->slides);
     printf("loudest samples: bridge %.3f, neck %.3f; largest displacement %d of 1048576, %.2f mm\n", bridge, neck, (int)t->largest,
            1e3 * metres_of_units(t->largest));
-    printf("%.2f s of sound, %.3f s inside sv_play_block: %.1f times real time, %.0f ns a step\n", PHRASE, t->inside, PHRASE / t->inside, 1e9 * t->inside / FRAMES);
+    printf("%.2f s of sound, %.3f s inside sv_step_booked: %.1f times real time, %.0f ns a step\n", PHRASE, t->inside, PHRASE / t->inside, 1e9 * t->inside / FRAMES);
 }
 
-static int write_picture(const char *path, const take *t)
+static int write_picture(const char *path, const take *t, const sheet_row *rows)
 {
     sv_setup s = player_setup(notes, notes[0].start);
     plot_mark marks[NOTES];
-    char caption[200];
+    char caption[200], sheet[200];
     for (int i = 0; i < NOTES; i++)
         marks[i] = (plot_mark){notes[i].start, notes[i].name, notes[i].how};
     snprintf(caption, sizeof caption,
              "N = %u, L = %u, in the bend up to %u, M = %u, S = %u, Z = %u; 44,100 steps a second in blocks of %d; each note from a fresh start",
              (unsigned)s.segments, (unsigned)s.tension, (unsigned)t->tightest, (unsigned)s.stiffness, (unsigned)s.viscous, (unsigned)s.plain, BLOCK);
+    snprintf(sheet, sizeof sheet, SHEET, joules_of_units(1));
     plot p = {.title = "The string voice: a phrase on an A string", .caption = caption, .seconds = PHRASE, .samples = t->samples, .frames = FRAMES,
               .millimetres = 1e3 * metres_of_units(1048576), .energy = t->energy, .touched = t->touched, .blocks = BLOCKS, .frets = FRETS,
-              .marks = marks, .marks_length = NOTES};
+              .marks = marks, .marks_length = NOTES, .sheet = sheet, .rows = rows, .rows_length = NOTES};
     return write_plot(path, &p);
 }
 
@@ -266,18 +279,19 @@ int main(int count, char **words)
 {
     static voice v;
     static take t;
-    static float driver[2 * BLOCK];
+    static sheet_row rows[NOTES];
     if (count != 3) {
         fprintf(stderr, "usage: phrase SOUND.wav PICTURE.svg\n");
         return 2;
     }
     lay_neck(&v);
     for (size_t block = 0; block < BLOCKS; block++) {
-        play_block(&v, &t, block, driver);
+        play_block(&v, &t, block);
         progress(block);
     }
-    report(&t);
-    written(words[2], write_picture(words[2], &t));
+    fill_sheet(&t, rows);
+    report(&t, rows);
+    written(words[2], write_picture(words[2], &t, rows));
     written(words[1], write_sound(words[1], &t));
     return 0;
 }

@@ -34,11 +34,31 @@ struct Changed {
     setup: Setup,
 }
 
+// A signed number of 128 bits: ((high as u128) << 64 | low as u128) as i128.
 #[repr(C)]
+#[allow(dead_code)]
+struct Wide {
+    high: u64,
+    low: u64,
+}
+
+#[repr(C)]
+#[allow(dead_code)]
+struct Book {
+    stored: Wide,
+    work: Wide,
+    loss: Wide,
+    rounding: Wide,
+    count: u32,
+}
+
+#[repr(C)]
+#[allow(dead_code)]
 struct Started {
     refusal: u32,
     turn: u32,
     finger: Finger,
+    book: Book, // for booked steps and bends; a block keeps none
 }
 
 #[repr(C)]

@@ -1,9 +1,9 @@
-/* A picture of a phrase as an SVG file: three panels above one another over the same seconds, and a line through them for each mark. */
+/* A picture of a phrase as an SVG file: three panels above one another over the same seconds, a line through them for each mark, and the sheet's rows below. */
 #include <math.h>
 #include <stdio.h>
 #include "plot.h"
 
-enum { WIDTH = 1240, HEIGHT = 760, LEFT = 92, RIGHT = 1216, COLUMNS = RIGHT - LEFT };
+enum { WIDTH = 1240, LEFT = 92, RIGHT = 1216, COLUMNS = RIGHT - LEFT, SHEET_TOP = 776, ROW = 18 };
 
 typedef struct {
     int top, bottom;
@@ -43,6 +43,7 @@ static void frame(FILE *f, panel a, const char *name)
 
 static void head(FILE *f, const plot *p)
 {
+    int height = SHEET_TOP + ROW * ((int)p->rows_length + 2);
     fprintf(f,
             "<svg xmlns=\"http://www.w3.org/2000/svg\" viewBox=\"0 0 %d %d\" width=\"%d\" height=\"%d\" font-family=\"Helvetica, Arial, sans-serif\">\n"
             "<style>text{font-size:12px;fill:#333}.title{font-size:18px;font-weight:bold;fill:#111}.caption{fill:#666}.value{text-anchor:end}\n"
@@ -51,7 +52,7 @@ static void head(FILE *f, const plot *p)
             ".frame{fill:none;stroke:#999}.wave{fill:#1f5a96;stroke:#1f5a96;stroke-width:.8}.energy{fill:none;stroke:#b9560b;stroke-width:1.5}\n"
             ".touched{fill:none;stroke:#2d7d46;stroke-width:3}</style>\n"
             "<rect width=\"%d\" height=\"%d\" fill=\"#fff\"/>\n",
-            WIDTH, HEIGHT, WIDTH, HEIGHT, WIDTH, HEIGHT);
+            WIDTH, height, WIDTH, height, WIDTH, height);
     text(f, LEFT, 32, "title", p->title);
     text(f, LEFT, 52, "caption", p->caption);
 }
@@ -154,6 +155,22 @@ static void touched_frets(FILE *f, const plot *p)
     frame(f, a, "frets touched");
 }
 
+/* The first cell begins at the left, the others end in columns of the same width. */
+static void sheet_line(FILE *f, const sheet_row *row, int y)
+{
+    text(f, LEFT, y, "caption", row->cells[0]);
+    for (int i = 1; i < CELLS; i++)
+        text(f, LEFT + COLUMNS * i / (CELLS - 1), y, "value", row->cells[i]);
+}
+
+static void sheet(FILE *f, const plot *p)
+{
+    text(f, (LEFT + RIGHT) / 2.0, SHEET_TOP - ROW / 2, "axis", p->sheet);
+    sheet_line(f, &sheet_heads, SHEET_TOP + ROW);
+    for (size_t i = 0; i < p->rows_length; i++)
+        sheet_line(f, &p->rows[i], SHEET_TOP + ROW * ((int)i + 2));
+}
+
 int write_plot(const char *path, const plot *p)
 {
     FILE *f = fopen(path, "w");
@@ -165,6 +182,7 @@ int write_plot(const char *path, const plot *p)
     energy(f, p);
     touched_frets(f, p);
     marks(f, p);
+    sheet(f, p);
     fprintf(f, "</svg>\n");
     int failed = ferror(f);
     failed |= fclose(f);

@@ -1,9 +1,8 @@
-/* A picture of a phrase as an SVG file: what the bridge pickup heard, the stored energy and the frets that were touched, over time. */
+/* A picture of a phrase as an SVG file: what the bridge pickup heard, the stored energy and the frets that were touched, over time; and the sheet under it. */
 #ifndef PLOT_H
 #define PLOT_H
 
-#include <stddef.h>
-#include <stdint.h>
+#include "sheet.h"
 
 /* Something that happened, with a name and, below it, how it was played. */
 typedef struct {
@@ -23,6 +22,9 @@ typedef struct {
     unsigned frets;
     const plot_mark *marks;
     size_t marks_length;
+    const char *sheet;             /* what stands in the rows under the panels */
+    const sheet_row *rows;
+    size_t rows_length;
 } plot;
 
 /* 0 if the file is written; otherwise errno says why not. */

@@ -1,4 +1,4 @@
-/* The numbers of document 01, 'What each operation turns down', in words. */
+/* The numbers of document 01, 'What each operation turns down', and of document 02 in words. */
 #include <stdio.h>
 #include <stdlib.h>
 #include "refusals.h"
@@ -20,6 +20,8 @@ static const char *const meanings[] = {
     "the step would move string or finger out of range: pluck or press with less force",
     "the step would drive a contact variable out of range: pluck or press with less force",
     "the forces are not two for each step, or there are fewer samples than forces",
+    "the book counts 4,294,967,295 steps, its largest number: begin another one",
+    "a column of the book is not from -2^120 to 2^120",
 };
 
 void refused(const char *call, uint32_t number, double seconds)

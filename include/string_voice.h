@@ -1,5 +1,5 @@
-/* The string voice for C: a guitar string seen from the side, its fretboard and frets and one stopping finger, stepped in whole numbers. Document 01 is
-   the scope, and the numbers of refusals are its numbers; docs/INTEGRATION.md says what to do about each.
+/* The string voice for C: a guitar string seen from the side, its fretboard and frets and one stopping finger, stepped in whole numbers. Documents 01 and
+   02 are the scope, and the numbers of refusals are theirs; docs/INTEGRATION.md says what to do about each.
 
    A voice is a setup, a neck and a state, all kept by the caller; the library keeps nothing between calls, allocates nothing and calls only memset and memcpy.
    Every function may be given any numbers and any lengths, and examines them. What it cannot examine is left to the caller:
@@ -43,6 +43,21 @@ typedef struct {
     float neck;   /* the one at neck_place */
 } sv_frame;
 
+/* 02, item 6: a signed number of 128 bits, two's complement, high word first: high * 2^64 + low, less 2^128 where the top bit of high is set. */
+typedef struct {
+    uint64_t high, low;
+} sv_wide;
+
+/* 02, item 6: an energy book, kept beside the voice. A fresh start gives one, and booked steps and bends give the next. Any book may be passed: its words are examined
+   only as 16 and 17 say. */
+typedef struct {
+    sv_wide stored;   /* the stored energy, worked out from the state; each column between -2^120 and 2^120 where a call accepts it */
+    sv_wide work;     /* of the forces and of bends */
+    sv_wide loss;
+    sv_wide rounding; /* the rounding work: stored = what it was at the fresh start + work - loss + rounding, exactly */
+    uint32_t count;   /* of accepted steps */
+} sv_book;
+
 /* Examines a setup: 0 if it is accepted, otherwise 1 to 5. Every other function examines its setup in the same way. */
 uint32_t sv_check_setup(sv_setup setup);
 
@@ -73,6 +88,7 @@ typedef struct {
     uint32_t refusal; /* 0, or 1 to 5, 6 or 10 */
     uint32_t turn;    /* 0 */
     sv_finger finger; /* at its two heights, contact variable 0; all 0 after a refusal */
+    sv_book book;     /* with the stored energy, and otherwise 0; all 0 after a refusal */
 } sv_started;
 
 /* A fresh start: clears both strings and the contact variables. A refusal leaves them as they were. */
@@ -102,6 +118,43 @@ sv_stepped sv_step(sv_setup setup,
                    sv_finger finger,
                    int32_t pluck,                                      /* the pluck force, -1,073,741,824 to 1,073,741,824 */
                    int32_t finger_force);                              /* the finger force, in the same range; below 0 presses */
+
+/* What a booked step answers. */
+typedef struct {
+    uint32_t refusal; /* 0, or 1 to 5, 6, 7, 11, 12, 16, 17, 13 or 14 */
+    uint32_t turn;    /* to frame: as for a step */
+    sv_finger finger;
+    sv_frame frame;
+    sv_book book;     /* with the step in it; after a refusal as passed in */
+} sv_booked;
+
+/* One step, and its booking: the stored energy of the new state, the step's work, loss and rounding work added, the count one more. As a step does, but refuses, after 12
+   and before anything is stepped, with 16 when the count is at its largest, 4,294,967,295, and with 17 when a column is outside -2^120 to 2^120. A refusal leaves every
+   buffer as it was. */
+sv_booked sv_step_booked(sv_setup setup,
+                         const int32_t *heights, size_t heights_length, /* to finger_force: as for a step */
+                         const uint16_t *stiffness, size_t stiffness_length,
+                         int32_t *first, size_t first_length,
+                         int32_t *second, size_t second_length,
+                         int32_t *contact, size_t contact_length,
+                         uint32_t turn, sv_finger finger,
+                         int32_t pluck, int32_t finger_force,
+                         sv_book book);                                 /* that the call before gave */
+
+/* What a booked bend answers. */
+typedef struct {
+    uint32_t refusal; /* 0, or 1 to 5, 6, 11 or 17 */
+    sv_setup setup;   /* with the new tension; after a refusal the one passed in */
+    sv_book book;     /* with the bend in it; after a refusal as passed in */
+} sv_bent;
+
+/* A bend, and its booking: its work 2 * (L' - L) * E(u, v) added, the stored energy by the new setup; the count stays. Refuses as a bend does, then with 6 for the three
+   buffers, 11 for the state and 17 for the book. Nothing is written. */
+sv_bent sv_bend_booked(sv_setup setup, uint32_t tension, /* as for a bend */
+                       const int32_t *first, size_t first_length,
+                       const int32_t *second, size_t second_length,
+                       const int32_t *contact, size_t contact_length,
+                       uint32_t turn, sv_finger finger, sv_book book);
 
 /* What a block answers. */
 typedef struct {

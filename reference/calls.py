@@ -1,6 +1,7 @@
 """A call of an operation as a line of text, and the reference's answer to it as another: what program `cases` reads and writes.
 
-A call is the operation's name, then each argument under its label, as whole numbers.
+A call is the operation's name, then each argument under its label, as whole numbers: a book by the words of its columns, the high one of each first, and its
+count.
 """
 
 import struct
@@ -8,6 +9,8 @@ from dataclasses import astuple, dataclass
 from pathlib import Path
 
 from string_voice.bending import bend, slide
+from string_voice.book import Book, words
+from string_voice.booking import bend_booked, step_booked
 from string_voice.moves import Finger
 from string_voice.neck import lay_neck
 from string_voice.playing import newest, play_block, read_place
@@ -19,10 +22,14 @@ from string_voice.step import fresh_start, step
 @dataclass(frozen=True)
 class Call:
     operation: str
-    arguments: dict  # label to list of whole numbers
+    arguments: dict  # label to list of whole numbers: a book's are its columns and its count
 
     def line(self):
-        return " ".join([self.operation, *(labelled(label, numbers) for label, numbers in self.arguments.items())])
+        written = self.arguments
+        if "book" in written:
+            book = Book(*written["book"])
+            written = written | {"book": [*book_words(book), book.count]}
+        return " ".join([self.operation, *(labelled(label, numbers) for label, numbers in written.items())])
 
 
 def crates_folder(arguments):
@@ -48,12 +55,22 @@ def double_bits(x):
     return bits.hex()
 
 
+def book_words(book):
+    """The words of its columns, the high one of each first."""
+    return [word for column in book.columns for word in words(column)]
+
+
+def book_text(book):
+    """The same in hexadecimal, and its count."""
+    return labelled("book", [*(f"{word:016x}" for word in book_words(book)), book.count])
+
+
 def refusal_of(call):
     """The number that a call is refused with; 0 if it is not."""
-    words = answer(call).split()
+    answered = answer(call).split()
     if call.operation == "block":
-        return int(words[words.index("refusal") + 1])
-    return int(words[0]) if words[0].isdigit() else 0
+        return int(answered[answered.index("refusal") + 1])
+    return int(answered[0]) if answered[0].isdigit() else 0
 
 
 def copied(call):
@@ -83,6 +100,7 @@ LENT = {
     "neck": ("heights", "stiffness"),
     "start": ("first", "second", "contact"),
     "step": ("first", "second", "contact"),
+    "step_booked": ("first", "second", "contact"),
     "block": ("first", "second", "contact"),
 }
 
@@ -104,6 +122,11 @@ def answer_bend(setup, tension):
     return accepted_setup(bend(Setup(*setup), *tension))
 
 
+def answer_bend_booked(setup, tension, first, second, contact, turn, finger, book):
+    new, after = bend_booked(Setup(*setup), *tension, first, second, contact, turn[0], Finger(*finger), Book(*book))
+    return f"{accepted_setup(new)} {book_text(after)}"
+
+
 def answer_slide(setup, place):
     return accepted_setup(slide(Setup(*setup), *place))
 
@@ -114,17 +137,25 @@ def answer_neck(setup, board, board_stiffness, frets, tip, fret_stiffness, heigh
 
 
 def answer_start(setup, first, second, contact, heights):
-    turn, finger = fresh_start(Setup(*setup), first, second, contact, *heights)
-    return f"0 turn {turn} {finger_text(finger)}"
+    turn, finger, book = fresh_start(Setup(*setup), first, second, contact, *heights)
+    return f"0 turn {turn} {finger_text(finger)} {book_text(book)}"
 
 
 def step_of(setup, heights, stiffness, first, second, contact, turn, finger, forces):
     return step(Setup(*setup), heights, stiffness, first, second, contact, turn[0], Finger(*finger), *forces)
 
 
-def answer_step(**arguments):
-    made = step_of(**arguments)
+def accepted_step(made):
     return f"0 turn {made.turn} {finger_text(made.finger)} {labelled('frame', map(single_bits, made.frame))}"
+
+
+def answer_step(**arguments):
+    return accepted_step(step_of(**arguments))
+
+
+def answer_step_booked(setup, heights, stiffness, first, second, contact, turn, finger, forces, book):
+    made, after = step_booked(Setup(*setup), heights, stiffness, first, second, contact, turn[0], Finger(*finger), *forces, Book(*book))
+    return f"{accepted_step(made)} {book_text(after)}"
 
 
 def answer_block(setup, heights, stiffness, first, second, contact, turn, finger, forces, samples):
@@ -146,10 +177,12 @@ def answer_reading(setup, heights, first, second, turn, place):
 OPERATIONS = {
     "setup": answer_setup,
     "bend": answer_bend,
+    "bend_booked": answer_bend_booked,
     "slide": answer_slide,
     "neck": answer_neck,
     "start": answer_start,
     "step": answer_step,
+    "step_booked": answer_step_booked,
     "block": answer_block,
     "newest": answer_newest,
     "reading": answer_reading,

@@ -1,14 +1,15 @@
-"""Writes cases/stdin, calls at the boundaries of document 01, at ties and with contacts that pull, and cases/stdout, the reference's answers to them, into
-crates/ or a folder named.
+"""Writes cases/stdin, calls at the boundaries of documents 01 and 02, at ties, with contacts that pull and with books at their ends, and cases/stdout, the
+reference's answers to them, into crates/ or a folder named.
 
 Each refusal number of each operation is given just outside its boundary, withheld on it, and beaten by each earlier number of the operation's
-order. The numbers in the tables below are 01's; a call to which the reference answers another number stops the writing.
+order. The numbers in the tables below are those of the documents; a call to which the reference answers another number stops the writing.
 """
 
 import sys
 
+from book_cases import AT_A_CARRY, END, WORD, all_booked, booked
 from calls import Call, answer, crates_folder, refusal_of
-from changes import BRIDGE, FINGER, K, L, M, MASS, N, NECK, PLUCK, PRESSED, S, SLACK, U32, UNDER_FINGER, Z
+from changes import BRIDGE, COLUMNS, COUNT, FINGER, K, L, M, MASS, N, NECK, PLUCK, PRESSED, S, SLACK, STORED, U32, UNDER_FINGER, WORK, Z
 from changes import bench_block, bench_setup, bench_step, both, cut, give, longer, put, with_new
 from contact_cases import all_contacts
 
@@ -16,11 +17,16 @@ from contact_cases import all_contacts
 
 SETUP = {"setup": [4, 1000, 100, 50, 20, 500, 5000, 2, 1, 3, 1]}
 STRINGS = {"first": [100, 200, 300], "second": [110, 190, 310], "contact": [5, -6, 7]}
-NECK_AND_STATE = {"heights": [-50, 0, -1000], "stiffness": [60000, 9, 0]} | STRINGS | {"turn": [0], "finger": [180, 170, 40]}
+STATE = STRINGS | {"turn": [0], "finger": [180, 170, 40]}
+NECK_AND_STATE = {"heights": [-50, 0, -1000], "stiffness": [60000, 9, 0]} | STATE
+FORCES = {"forces": [90000, -70000]}
+BOOK = {"book": [1000, -2000, WORD + 3000, -WORD - 4000, 5]}
+# with the new value the same setup
+BEND = put("setup", (L, 1200))(SETUP) | {"tension": [1000]}
 GOOD = {
     "setup": SETUP,
-    # with the new value the same setup
-    "bend": put("setup", (L, 1200))(SETUP) | {"tension": [1000]},
+    "bend": BEND,
+    "bend_booked": BEND | STATE | BOOK,
     "slide": put("setup", (FINGER, 3))(SETUP) | {"place": [2]},
     "neck": SETUP
     | {
@@ -33,7 +39,8 @@ GOOD = {
         "stiffness": [2, 2, 2],
     },
     "start": SETUP | STRINGS | {"heights": [5, -6]},
-    "step": SETUP | NECK_AND_STATE | {"forces": [90000, -70000]},
+    "step": SETUP | NECK_AND_STATE | FORCES,
+    "step_booked": SETUP | NECK_AND_STATE | FORCES | BOOK,
     "block": SETUP | NECK_AND_STATE | {"forces": [90000, -70000, 0, 0, 0, 4000], "samples": [7] * 6},
     "newest": {"first": [100, 200, 300], "second": [110, 190, 310], "turn": [0]},
     "reading": SETUP | {"heights": [-50, 0, -1000], "first": [100, -200, 300], "second": [110, 190, -1310], "turn": [0], "place": [2]},
@@ -52,8 +59,10 @@ SETUP_ROWS = [
 
 # 02, item 5: a bend and a slide are examined as a setup is, with the new value; the old one is not examined, whatever it is
 NEW = {"bend": with_new("tension", L), "slide": with_new("place", FINGER)}
+OLD_TENSIONS = [put("setup", (L, n)) for n in (0, 1, 3596, 3597, 4096, 4097, U32)]
 OLD = {
-    "bend": [put("setup", (L, n)) for n in (0, 1, 3596, 3597, 4096, 4097, U32)],
+    "bend": OLD_TENSIONS,
+    "bend_booked": OLD_TENSIONS,
     "slide": [put("setup", (FINGER, n)) for n in (0, 1, 4, 5, U32)],
 }
 
@@ -82,7 +91,7 @@ STATE_ROW = (
     + [put("contact", (0, n)) for n in (67_108_865, -67_108_865, -2_147_483_648)]
     + [put("finger", (0, 1_048_577)), put("finger", (1, -1_048_577)), put("finger", (2, 67_108_865)), put("finger", (2, -67_108_865))],
 )
-FORCES_ROW = (12, [put("forces", (i, n)) for i in (0, 1) for n in (1_073_741_825, -1_073_741_825, -2_147_483_648)])
+FORCES_ROW = (12, [put("forces", (i, n)) for i in (1, 0) for n in (1_073_741_825, -1_073_741_825, -2_147_483_648)])
 # the point at 3 is on its way out of range, or the finger
 NEXT_DISPLACEMENT_ROW = (13, [put("first", (2, 1_048_576)), put("first", (2, -1_048_576)), put("finger", (0, 1_048_576), (1, 0))])
 # the point at 1 is in the board and sinks fast, its contact variable near the end of the range; or the finger is, in the string
@@ -94,9 +103,21 @@ NEXT_CONTACT_ROW = (
     ],
 )
 
+# 02, item 6: each column beyond its ends by one, by a whole high word, and as far as its words go
+COUNT_ROW = (16, [put("book", (COUNT, U32))])
+COLUMNS_ROW = (
+    17,
+    [put("book", (column, sign * (END + 1))) for column in COLUMNS for sign in (1, -1)]
+    + [put("book", (column, n)) for column in (STORED, WORK) for n in (END + WORD, -END - WORD, 2**127 - 1, -(2**127))],
+)
+
+STATE_BUFFERS = ("first", "second", "contact")
+BEND_ROWS = [(number, NEW["bend"](changes)) for number, changes in SETUP_ROWS]
 ROWS = {
     "setup": SETUP_ROWS,
-    "bend": [(number, NEW["bend"](changes)) for number, changes in SETUP_ROWS],
+    "bend": BEND_ROWS,
+    # contact comes first: with it cut, the displacement that 11 is given for is still there
+    "bend_booked": BEND_ROWS + [lengths("contact", "first", "second"), STATE_ROW, COLUMNS_ROW],
     "slide": [(number, NEW["slide"](changes)) for number, changes in SETUP_ROWS],
     "neck": SETUP_ROWS
     + [
@@ -107,12 +128,15 @@ ROWS = {
     ],
     "start": SETUP_ROWS
     + [
-        lengths("first", "second", "contact"),
+        lengths(*STATE_BUFFERS),
         (10, [put("heights", (0, n)) for n in (-1, 1_048_577)] + [put("heights", (1, n)) for n in (1_048_577, -1_048_577)]),
     ],
     "step": SETUP_ROWS
     + [lengths(*STEP_BUFFERS), HEIGHTS_ROW, STATE_ROW]
     + [FORCES_ROW, NEXT_DISPLACEMENT_ROW, NEXT_CONTACT_ROW],
+    "step_booked": SETUP_ROWS
+    + [lengths(*STEP_BUFFERS), HEIGHTS_ROW, STATE_ROW]
+    + [FORCES_ROW, COUNT_ROW, COLUMNS_ROW, NEXT_DISPLACEMENT_ROW, NEXT_CONTACT_ROW],
     "block": SETUP_ROWS
     + [
         lengths(*STEP_BUFFERS),
@@ -150,11 +174,12 @@ SETUP_ON = [
     put("setup", (FINGER, 1), (PLUCK, 1), (BRIDGE, 1), (NECK, 1)),
 ]
 HEIGHTS_ON = [put("heights", (0, 0)), put("heights", (2, -1_048_576))]
+TURNS = [give("turn", n) for n in (1, 2, U32)]
 STEP_ON = (
     SETUP_ON
     + [string_of(2, *STEP_BUFFERS), string_of(128, *STEP_BUFFERS)]
     + HEIGHTS_ON
-    + [give("turn", n) for n in (1, 2, U32)]
+    + TURNS
     + [put("forces", (i, n)) for i in (0, 1) for n in (1_073_741_824, -1_073_741_824)]
     + [put("first", (2, n)) for n in (524_000, -524_000)]
     + [both(put("second", (2, n)), put("first", (2, n))) for n in (1_048_576, -1_048_576)]
@@ -163,10 +188,26 @@ STEP_ON = (
     + [put("finger", (0, 1000), (2, n)) for n in (67_108_864, -67_108_864)]
 )
 
+STATE_ON = (
+    [put(label, (2, n)) for label in ("first", "second") for n in (1_048_576, -1_048_576)]
+    + [put("contact", (0, n)) for n in (67_108_864, -67_108_864)]
+    + [put("finger", (i, n)) for i in (0, 1) for n in (1_048_576, -1_048_576)]
+    + [put("finger", (2, n)) for n in (67_108_864, -67_108_864)]
+)
+COLUMNS_ON = [put("book", (column, n)) for column in COLUMNS for n in (END, -END)]
+
 SETUP_ACCEPTED = SETUP_ON + [put("setup", (N, 128)), string_of(2)]
+OTHER_TENSIONS = [give("tension", n) for n in (1200, 1201)]
 ACCEPTED = {
     "setup": SETUP_ACCEPTED,
-    "bend": NEW["bend"](SETUP_ACCEPTED) + [give("tension", n) for n in (1200, 1201)],
+    "bend": NEW["bend"](SETUP_ACCEPTED) + OTHER_TENSIONS,
+    "bend_booked": NEW["bend"](SETUP_ON)
+    + OTHER_TENSIONS
+    + [string_of(2, *STATE_BUFFERS), string_of(128, *STATE_BUFFERS)]
+    + TURNS
+    + STATE_ON
+    + COLUMNS_ON
+    + [put("book", (COUNT, n)) for n in (0, U32)],
     "slide": NEW["slide"](SETUP_ACCEPTED) + [give("place", n) for n in (1, 3)],
     "neck": SETUP_ON
     + [with_frets(segments=2), with_frets(1, segments=2)]
@@ -176,9 +217,12 @@ ACCEPTED = {
     + [both(put("board", (1, -5)), give("frets", 2)), both(put("board", (0, -1_048_576)), give("frets", 1), give("tip", -1_048_576))]
     + [with_frets(*range(104, 128))],
     "start": SETUP_ON
-    + [string_of(2, "first", "second", "contact"), string_of(128, "first", "second", "contact")]
-    + [give("heights", *pair) for pair in ((0, 0), (1_048_576, 1_048_576), (0, -1_048_576), (1_048_576, -1_048_576))],
+    + [string_of(2, *STATE_BUFFERS), string_of(128, *STATE_BUFFERS)]
+    + [give("heights", *pair) for pair in ((0, 0), (1_048_576, 1_048_576), (0, -1_048_576), (1_048_576, -1_048_576))]
+    # the stored energy is 2^63
+    + [both(put("setup", (MASS, 1_048_576)), give("heights", 1_048_576, -1_048_576))],
     "step": STEP_ON,
+    "step_booked": STEP_ON + COLUMNS_ON + [put("book", (COUNT, n)) for n in (0, U32 - 1)],
     "block": [both(give("forces", 90000, -70000), give("samples", 7, 7), change) for change in STEP_ON]
     + [both(give("forces"), give("samples"), give("turn", n)) for n in (0, 1, 7)]
     + [both(give("forces", *([0] * 64)), give("samples", *([7] * 64)))]
@@ -309,12 +353,17 @@ def all_calls():
             yield f"{operation}: whatever the old value is", 0, Call(operation, old(GOOD[operation]))
             for number, changes in ROWS[operation]:
                 yield f"{operation}: whatever the old value is", number, Call(operation, both(old, changes[0])(GOOD[operation]))
-    for number, call in BOUNDARIES:
-        yield "boundary of 13 and 14", number, call
-    for call in TIES:
-        yield "ties", 0, call
-    for title, number, call in all_contacts():
-        yield f"contacts: {title}", number, call
+    worked = [
+        *(("boundary of 13 and 14", number, call) for number, call in BOUNDARIES),
+        *(("ties", 0, call) for call in TIES),
+        *((f"contacts: {title}", number, call) for title, number, call in all_contacts()),
+    ]
+    yield from worked
+    for title, number, call in worked:
+        if call.operation == "step":
+            yield f"{title}, booked", number, booked(call, AT_A_CARRY)
+    for title, call in all_booked():
+        yield f"booked: {title}", 0, call
     for number, *changes in LATER:
         yield f"block: {number} at a later step", number, Call("block", both(*changes)(GOOD["block"]))
     for number, *changes in LATER:

@@ -4,6 +4,8 @@ from calls import Call
 
 U32 = 4_294_967_295
 N, L, M, S, Z, K, MASS, FINGER, PLUCK, BRIDGE, NECK = range(11)  # the fields of a setup
+STORED, WORK, LOSS, ROUNDING, COUNT = range(5)  # the columns of a book, and its count
+COLUMNS = (STORED, WORK, LOSS, ROUNDING)
 
 
 def put(label, *changes):

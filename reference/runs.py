@@ -1,9 +1,10 @@
 """Writes runs/stdout, into crates/ or a folder named: long runs on drawn setups, necks, fingers and forces, played by the reference.
 
 A run is stretches of 256 frames, each of them four parts of 64: a block, single steps, a block, single steps; between single steps there are bends and
-slides. The checksum of a run takes in every refusal, and after each part the turn, the finger, all buffers and all samples. The steps must have made enough
-ties of every kind, and have cleared and dropped enough contacts of every kind, and there must be enough bends and slides with the string free, on the neck and
-under the finger.
+slides. The last stretches are single steps alone, from a fresh start on, and these steps and bends are booked. The checksum of a run takes in every refusal,
+and after each part the turn, the book, the finger, all buffers and all samples. The steps must have made enough ties of every kind, and have cleared and
+dropped enough contacts of every kind, there must be enough bends and slides with the string free, on the neck and under the finger, and enough of each must
+be booked.
 """
 
 import sys
@@ -13,7 +14,7 @@ from fractions import Fraction
 from itertools import pairwise
 from math import floor
 
-from calls import crates_folder, single_bits
+from calls import book_text, book_words, crates_folder, single_bits
 from drawn import Generator, drawn_change, drawn_forces
 from string_voice.energy import bend_work
 from string_voice.playing import play_block
@@ -22,11 +23,14 @@ from voices import CONTACTS, Voice
 
 RUNS = 48
 STRETCHES = 21
+UNBOOKED = 18  # the first stretches of a run
 ENOUGH = 100
 TIES = [("tie", where, above, even) for where in ("away from p", "at p", "of the finger") for above in (True, False) for even in (True, False)]
 CLEARED = [("cleared", where) for where in ("at a point", "of the finger")]
 DROPPED = [("dropped", where) for where in ("away from p", "at p, the string's", "at p, the finger's", "at p, both together")]
 CHANGED = [(operation, where) for operation in ("bend", "slide") for where in CONTACTS]
+BOOKED = [("booked", call, column, above) for call, column in (("step", "work"), ("step", "rounding"), ("bend", "work")) for above in (True, False)]
+BOOKED += [("booked", kind) for kind in ("tie", "cleared", "dropped")]
 
 
 def ties_of(worked):
@@ -63,6 +67,14 @@ def kinds_of(stepped):
     return [*ties_of(worked[-1]), *cleared_in(stepped.given, worked[0]), *dropped_in(worked)]
 
 
+def booked_by(call, before, after):
+    """The columns to which a call of this name added something, and whether that was above 0."""
+    for column in ("work", "loss", "rounding"):
+        old, new = getattr(before, column), getattr(after, column)
+        if old != new:
+            yield "booked", call, column, new > old
+
+
 class Run:
     def __init__(self, seed, segments):
         self.seed = seed
@@ -70,6 +82,7 @@ class Run:
         self.voice = Voice(self.generator, segments)
         self.samples = [0] * 128
         self.steps, self.refused, self.checksum, self.kinds = 0, dict.fromkeys((2, 3, 4, 12, 13, 14), 0), 0, Counter()
+        self.booked = False  # whether steps and bends are
 
     def add(self, *words):
         """Takes words of 32 bits into the checksum."""
@@ -94,15 +107,21 @@ class Run:
 
     def change(self, operation, value):
         """A bend or a slide. A bend with work is counted, and a slide to another place, by where the string was in contact."""
-        voice, old, contacts = self.voice, self.voice.setup, self.voice.contacts
-        voice.change(operation, value)
+        voice, old, book, contacts = self.voice, self.voice.setup, self.voice.book, self.voice.contacts
+        (voice.change_booked if self.booked else voice.change)(operation, value)
+        self.kinds.update(booked_by(operation.__name__, book, voice.book))
         if bend_work(old, voice.setup, voice.state) or voice.setup.finger_place != old.finger_place:
             self.kinds.update((operation.__name__, where) for where in contacts)
 
     def step(self, frame, forces):
         """One frame of 64."""
-        stepped = self.voice.step(*forces)
-        self.kinds.update(kinds_of(stepped))
+        voice, book = self.voice, self.voice.book
+        stepped = (voice.step_booked if self.booked else voice.step)(*forces)
+        kinds = kinds_of(stepped)
+        self.kinds.update(kinds)
+        if self.booked:
+            self.kinds.update(booked_by("step", book, voice.book))
+            self.kinds.update(("booked", kind) for kind, *_ in kinds)
         self.samples[2 * frame : 2 * frame + 2] = stepped.frame
         self.steps += 1
 
@@ -130,7 +149,7 @@ class Run:
         refusal = play(drawn_forces(self.generator, voice.setup))
         finger = voice.finger
         numbers = [finger.newer, finger.older, finger.contact, *voice.first, *voice.second, *voice.contact]
-        self.add(voice.turn)
+        self.add(voice.turn, *(half for word in book_words(voice.book) for half in divmod(word, 2**32)), voice.book.count)
         for x in numbers:
             self.add(int(x < 0), abs(x))
         self.add(*(int(single_bits(x), 16) for x in self.samples))
@@ -144,19 +163,20 @@ class Run:
             f"run {self.seed} stretch {stretch} steps {self.steps} refused {' '.join(map(str, self.refused.values()))}"
             f" tension {voice.setup.tension} place {voice.setup.finger_place}"
             f" strings {sum(voice.first)} {sum(voice.second)} contact {sum(voice.contact)}"
-            f" finger {finger.newer} {finger.older} {finger.contact} turn {voice.turn}"
+            f" finger {finger.newer} {finger.older} {finger.contact} turn {voice.turn} {book_text(voice.book)}"
             f" samples {' '.join(map(single_bits, self.samples[126:]))} checksum {self.checksum:08x}"
         )
 
 
 def played(number):
-    """The lines of a run, and its kinds of ties, contacts and changes. The segments of the runs go evenly from 2 to 128."""
+    """The lines of a run, and its kinds of ties, contacts, changes and bookings. The segments of the runs go evenly from 2 to 128."""
     run = Run(number + 1, 2 + number * 126 // (RUNS - 1))
     lines = []
     for stretch in range(STRETCHES):
-        if run.generator.draw(4) == 0:
+        run.booked = stretch >= UNBOOKED
+        if run.generator.draw(4) == 0 or stretch == UNBOOKED:
             run.voice.start()
-        for play in (run.block, run.singles, run.block, run.singles):
+        for play in [run.singles] * 4 if run.booked else [run.block, run.singles] * 2:
             run.part(play)
         lines.append(run.line(stretch))
     return lines, run.kinds
@@ -166,7 +186,7 @@ def main(crates):
     with ProcessPoolExecutor() as pool:
         runs = list(pool.map(played, range(RUNS)))
     kinds = sum((of_run for _, of_run in runs), Counter())
-    for kind in [*TIES, *CLEARED, *DROPPED, *CHANGED]:
+    for kind in [*TIES, *CLEARED, *DROPPED, *CHANGED, *BOOKED]:
         assert kinds[kind] >= ENOUGH, f"{kind}: {kinds[kind]}, and not {ENOUGH}"
     lines = [line for of_run, _ in runs for line in of_run]
     (crates / "runs" / "stdout").write_text("\n".join(lines) + "\n")

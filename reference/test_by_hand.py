@@ -29,7 +29,7 @@ NO_NECK = ([0], [0])
 def displacements(plucks):
     """The string's one point after each step of the bench voice from a fresh start, with these plucks and no finger force."""
     first, second, contact = [9], [9], [9]
-    turn, finger = fresh_start(BENCH, first, second, contact, 0, 0)
+    turn, finger, _ = fresh_start(BENCH, first, second, contact, 0, 0)
     after = []
     for pluck in plucks:
         stepped = step(BENCH, *NO_NECK, first, second, contact, turn, finger, pluck, 0)

@@ -1,5 +1,5 @@
-"""Demand 3 on drawn lists of calls of the reference, bends and slides among them, and that no contact pulls: the energies after each call, every residual
-and its limit, every contact."""
+"""Demand 3 on drawn lists of booked calls of the reference, bends and slides among them, and that no contact pulls: the energies and the book after each
+call, every residual and its limit, every contact."""
 
 import unittest
 from collections import Counter
@@ -8,6 +8,7 @@ from itertools import product
 
 from drawn import Generator, drawn_change, drawn_forces, drawn_slide
 from string_voice.bending import slide
+from string_voice.book import Book
 from string_voice.energy import bend_work, loss, rounding_limit, rounding_work, stored, within_limits, work
 from string_voice.ranges import Refused
 from voices import CONTACTS, Voice
@@ -15,13 +16,13 @@ from voices import CONTACTS, Voice
 ENOUGH = 20
 
 
-class Book:
-    """The sums of a list of calls from a fresh start, which the voice has just made."""
+class Sums:
+    """The sums of a list of booked calls from a fresh start, which the voice has just made."""
 
     def __init__(self, voice):
         self.voice = voice
         self.start = self.stored
-        self.work = self.loss = self.rounding = self.limit = 0
+        self.work = self.loss = self.rounding = self.limit = self.steps = 0
         self.unforced = True
 
     @property
@@ -30,19 +31,20 @@ class Book:
         return stored(self.voice.setup, self.voice.state)
 
     def step(self, pluck, finger_force):
-        stepped = self.voice.step(pluck, finger_force)
+        stepped = self.voice.step_booked(pluck, finger_force)
         worked = stepped.workings[-1]
         self.work += work(worked)
         self.loss += loss(stepped.given, worked)
         self.rounding += rounding_work(worked)
         self.limit += rounding_limit(worked)
+        self.steps += 1
         self.unforced &= pluck == finger_force == 0
         return stepped
 
     def change(self, operation, value):
         """A bend or a slide."""
         old = self.voice.setup
-        self.voice.change(operation, value)
+        self.voice.change_booked(operation, value)
         self.work += bend_work(old, self.voice.setup, self.voice.state)
         self.unforced &= operation is slide
 
@@ -81,44 +83,46 @@ class Energy(unittest.TestCase):
 
     def play(self, voice, drawn_change, drawn_forces):
         """Four parts of 64 frames, before each of them a bend or a slide; after 13 or 14 a fresh start and a new list."""
-        book = Book(voice)
+        sums = Sums(voice)
         for _ in range(4):
             forces = drawn_forces(voice.generator, voice.setup)
             for pair in zip(forces[::2], forces[1::2]):
                 operation, value = drawn_change(voice.generator, voice.setup)
-                self.call(book, operation.__name__, book.change, operation, value)
-                if self.call(book, "step", self.step, book, *pair) > 12:
+                self.call(sums, operation.__name__, sums.change, operation, value)
+                if self.call(sums, "step", self.step, sums, *pair) > 12:
                     voice.start()
-                    book = Book(voice)
+                    sums = Sums(voice)
 
-    def call(self, book, name, call, *arguments):
+    def call(self, sums, name, call, *arguments):
         """Makes a call and checks the list that it ends. Answers its refusal, 0 if it has none."""
-        before, contacts = (book.voice.setup, book.voice.state, vars(book).copy()), book.voice.contacts
+        voice = sums.voice
+        before, contacts = (voice.setup, voice.state, voice.book, vars(sums).copy()), voice.contacts
         refusal = 0
         try:
             call(*arguments)
             self.met.update((name, where) for where in contacts)
         except Refused as refused:
             refusal = refused.number
-            self.assertEqual((book.voice.setup, book.voice.state, vars(book)), before)
+            self.assertEqual((voice.setup, voice.state, voice.book, vars(sums)), before)
             self.met["refused", refusal] += 1
-        self.check(book, contacts)
+        self.check(sums, contacts)
         return refusal
 
-    def check(self, book, contacts):
-        """Demand 3."""
-        energy = book.stored
-        self.assertEqual(energy, book.start + book.work - book.loss + book.rounding)
+    def check(self, sums, contacts):
+        """Demand 3, and the book, which has the same sums."""
+        energy = sums.stored
+        self.assertEqual(sums.voice.book, Book(energy, sums.work, sums.loss, sums.rounding, sums.steps))
+        self.assertEqual(energy, sums.start + sums.work - sums.loss + sums.rounding)
         self.assertGreaterEqual(energy, 0)
-        self.assertLessEqual(abs(book.rounding), book.limit)
-        if book.loss == 0 and book.unforced:
-            self.assertLessEqual(abs(energy - book.start), book.limit)
+        self.assertLessEqual(abs(sums.rounding), sums.limit)
+        if sums.loss == 0 and sums.unforced:
+            self.assertLessEqual(abs(energy - sums.start), sums.limit)
             self.met.update(("lossless and unforced", where) for where in contacts)
 
-    def step(self, book, pluck, finger_force):
+    def step(self, sums, pluck, finger_force):
         """A step; every residual is within its limit, nothing is gained by its loss, and no contact pulls."""
-        stepped = book.step(pluck, finger_force)
-        worked, after = stepped.workings[-1], book.voice.state
+        stepped = sums.step(pluck, finger_force)
+        worked, after = stepped.workings[-1], sums.voice.state
         self.assertGreaterEqual(loss(stepped.given, worked), 0)
         self.assertTrue(within_limits(worked))
         old, gradients = worked.state, worked.gradients

@@ -6,7 +6,7 @@ from fractions import Fraction
 from .neck import check_heights
 from .ranges import DISPLACEMENTS, Refused, all_in, refuse
 from .setup import check_lengths, check_setup
-from .step import check_state, step_made
+from .step import check_forces, check_state, step_made
 
 
 @dataclass(frozen=True)
@@ -33,6 +33,7 @@ def play_block(setup, heights, stiffness, first, second, contact, turn, finger, 
     while 2 * count < len(forces):
         pluck, finger_force = forces[2 * count : 2 * count + 2]
         try:
+            check_forces(pluck, finger_force)
             stepped = step_made(setup, heights, stiffness, first, second, contact, turn, finger, pluck, finger_force)
         except Refused as refused:
             return Played(count, refused.number, turn, finger, steps)

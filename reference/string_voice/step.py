@@ -1,9 +1,11 @@
-"""01, 'One step': the fresh start, and the step with its refusals and what it writes. The moves are those of 02's items 2 and 3."""
+"""01, 'One step': the fresh start, with 02's item 6, and the step with its refusals and what it writes. The moves are those of 02's items 2 and 3."""
 
 from dataclasses import dataclass
 from fractions import Fraction
 
+from .book import fresh_book
 from .differences import with_ends
+from .energy import stored
 from .moves import Finger, State, next_state
 from .neck import check_heights
 from .pulling import workings
@@ -24,13 +26,14 @@ class Stepped:
 
 
 def fresh_start(setup, first, second, contact, height, older_height):
-    """Clears the buffers, and answers turn and finger."""
+    """Clears the buffers, and answers turn, finger and book."""
     check_setup(setup)
     check_lengths(setup, first, second, contact)
     refuse(10, not 0 <= height <= 1_048_576 or older_height not in DISPLACEMENTS)
     for buffer in (first, second, contact):
         buffer[:] = [0] * len(buffer)
-    return 0, Finger(height, older_height, 0)
+    finger = Finger(height, older_height, 0)
+    return 0, finger, fresh_book(stored(setup, state_of(first, second, contact, 0, finger)))
 
 
 def state_of(first, second, contact, turn, finger):
@@ -45,17 +48,27 @@ def check_state(first, second, contact, finger):
     refuse(11, not all_in([*contact, finger.contact], CONTACT_VARIABLES))
 
 
-def step(setup, heights, stiffness, first, second, contact, turn, finger, pluck, finger_force):
+def check_forces(pluck, finger_force):
+    """12."""
+    refuse(12, not all_in([pluck, finger_force], FORCES))
+
+
+def check_arguments(setup, heights, stiffness, first, second, contact, finger):
+    """What a step examines before its forces: 1 to 5, 6, 7 and 11."""
     check_setup(setup)
     check_lengths(setup, heights, stiffness, first, second, contact)
     check_heights(heights)
     check_state(first, second, contact, finger)
+
+
+def step(setup, heights, stiffness, first, second, contact, turn, finger, pluck, finger_force):
+    check_arguments(setup, heights, stiffness, first, second, contact, finger)
+    check_forces(pluck, finger_force)
     return step_made(setup, heights, stiffness, first, second, contact, turn, finger, pluck, finger_force)
 
 
 def step_made(setup, heights, stiffness, first, second, contact, turn, finger, pluck, finger_force):
-    """A step whose setup, neck and state are examined: 12, then 13 and 14 of the last working, then the writing."""
-    refuse(12, not all_in([pluck, finger_force], FORCES))
+    """A step whose arguments are examined: 13 and 14 of the last working, then the writing."""
     state = state_of(first, second, contact, turn, finger)
     worked = workings(setup, heights, stiffness, state, pluck, finger_force)
     new = next_state(worked[-1])

@@ -5,8 +5,8 @@ use lib.IntN.{ℤ}
 use Rattle.model.specs.Neck.{NeckResult}
 use Rattle.model.specs.Start.{StartResult}
 use Rattle.model.specs.Step.{StepResult}
-use Rattle.capi.specs.Rows.{number, startRow, stepRow}
-use Rattle.capi.specs.declared.sv_fresh_start.StartRow.{StartRow}
+use Rattle.model.specs.Booking.{BookedResult}
+use Rattle.capi.specs.Rows.{number, StartView, startRow, stepRow, BookedView, bookedRow}
 use Rattle.capi.specs.declared.sv_step.StepRow.{StepRow}
 
 pub record NeckCall : Type 0 where
@@ -18,7 +18,7 @@ abbrev pub neckCall : NeckResult → NeckCall
 neckCall r = record { refusal = number (r .answer); heights = r .heights; stiffness = r .stiffness }
 
 pub record StartCall : Type 0 where
-  pub row : StartRow
+  pub row : StartView
   pub first : List ℤ
   pub second : List ℤ
   pub contact : List ℤ
@@ -34,3 +34,12 @@ pub record StepCall : Type 0 where
 
 abbrev pub stepCall : StepResult → StepCall
 stepCall r = record { row = stepRow r; first = r .lent .first; second = r .lent .second; contact = r .lent .contact }
+
+pub record BookedCall : Type 0 where
+  pub row : BookedView
+  pub first : List ℤ
+  pub second : List ℤ
+  pub contact : List ℤ
+
+abbrev pub bookedCall : BookedResult → BookedCall
+bookedCall r = record { row = bookedRow r; first = r .lent .first; second = r .lent .second; contact = r .lent .contact }

@@ -5,8 +5,11 @@ use lib.Ieee.{Float, binary64}
 use Rattle.model.specs.Fraction.{fraction}
 use Rattle.model.specs.Refusal.{Answer, accepted, refused}
 use Rattle.model.specs.Step.{StepResult, frameOf}
+use Rattle.model.specs.Book.{Columns, columns}
+use Rattle.model.specs.Start.{FreshStart}
+use Rattle.model.specs.Booking.{BookedResult, BentResult}
 use Rattle.model.specs.declared.Setup.{Setup}
-use Rattle.model.specs.declared.Started.{Started}
+use Rattle.model.specs.declared.Finger.{Finger}
 use Rattle.model.specs.declared.Frame.{Frame}
 use Rattle.model.specs.declared.Reading.{Reading}
 use Rattle.model.specs.declared.Reading.the-variants.{Free, Pressed, Refused}
@@ -14,6 +17,8 @@ use Rattle.capi.specs.declared.setup_row.SetupRow.{SetupRow}
 use Rattle.capi.specs.declared.changed_row.ChangedRow.{ChangedRow}
 use Rattle.capi.specs.declared.sv_fresh_start.StartRow.{StartRow}
 use Rattle.capi.specs.declared.sv_step.StepRow.{StepRow}
+use Rattle.capi.specs.declared.sv_step_booked.BookedRow.{BookedRow}
+use Rattle.capi.specs.declared.sv_bend_booked.BentRow.{BentRow}
 use Rattle.capi.specs.declared.sv_read_place.ReadingRow.{ReadingRow}
 
 abbrev pub setupOf : SetupRow → Setup
@@ -55,10 +60,25 @@ abbrev pub number : {A : Type 0} → Answer A → ℕ
 number (accepted a) = 0
 number (refused n) = n
 
--- turn and finger of an accepted fresh start; zeros after a refusal
-abbrev pub startRow : Answer Started → StartRow
-startRow (accepted a) = record { refusal = 0; turn = a .turn; finger = a .finger }
-startRow (refused n) = record { refusal = n; turn = 0; finger = record { newer = pos 0; older = pos 0; contact = pos 0 } }
+-- what a row with a book says: the book by its columns
+pub record StartView : Type 0 where
+  pub refusal : ℕ
+  pub turn : ℕ
+  pub finger : Finger
+  pub book : Columns
+
+abbrev pub startView : StartRow → StartView
+startView r = record { refusal = r .refusal; turn = r .turn; finger = r .finger; book = columns (r .book) }
+
+-- turn, finger and book of an accepted fresh start; zeros after a refusal
+abbrev pub startRow : Answer FreshStart → StartView
+startRow (accepted a) = record { refusal = 0; turn = a .turn; finger = a .finger; book = a .book }
+startRow (refused n) = record {
+  refusal = n;
+  turn = 0;
+  finger = record { newer = pos 0; older = pos 0; contact = pos 0 };
+  book = record { stored = pos 0; work = pos 0; loss = pos 0; rounding = pos 0; count = 0 };
+}
 
 -- the frame of an accepted step, of two zeros after a refusal
 abbrev pub frameOrZero : Answer Frame → Frame
@@ -68,6 +88,32 @@ frameOrZero (refused n) = frameOf (pos 0) (pos 0)
 -- turn and finger after a step, which after a refusal are those passed in
 abbrev pub stepRow : StepResult → StepRow
 stepRow r = record { refusal = number (r .answer); turn = r .lent .turn; finger = r .lent .finger; frame = frameOrZero (r .answer) }
+
+pub record BookedView : Type 0 where
+  pub refusal : ℕ
+  pub turn : ℕ
+  pub finger : Finger
+  pub frame : Frame
+  pub book : Columns
+
+abbrev pub bookedView : BookedRow → BookedView
+bookedView r = record { refusal = r .refusal; turn = r .turn; finger = r .finger; frame = r .frame; book = columns (r .book) }
+
+-- turn, finger and book after a booked step, which after a refusal are those passed in
+abbrev pub bookedRow : BookedResult → BookedView
+bookedRow r = record { refusal = number (r .answer); turn = r .lent .turn; finger = r .lent .finger; frame = frameOrZero (r .answer); book = r .book }
+
+pub record BentView : Type 0 where
+  pub refusal : ℕ
+  pub setup : SetupRow
+  pub book : Columns
+
+abbrev pub bentView : BentRow → BentView
+bentView r = record { refusal = r .refusal; setup = r .setup; book = columns (r .book) }
+
+-- setup and book after a booked bend, which after a refusal are those passed in
+abbrev pub bentRow : SetupRow → BentResult → BentView
+bentRow passed r = let row = changedRow passed (r .answer) in record { refusal = row .refusal; setup = row .setup; book = r .book }
 
 -- 0, in double precision
 abbrev pub none : Float

@@ -4,6 +4,7 @@
 mod changed_row;
 mod setup_row;
 mod sv_bend;
+mod sv_bend_booked;
 mod sv_check_setup;
 mod sv_fresh_start;
 mod sv_lay_neck;
@@ -12,3 +13,4 @@ mod sv_play_block;
 mod sv_read_place;
 mod sv_slide;
 mod sv_step;
+mod sv_step_booked;

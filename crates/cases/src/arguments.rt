@@ -1,8 +1,10 @@
-// The arguments of a call, read from its line: lists of numbers, setup and finger.
+// The arguments of a call, read from its line: lists of numbers, setup, finger and book.
 use crate::words;
+use voice::Book;
 use voice::Finger;
 use voice::FingerSetup;
 use voice::Setup;
+use voice::Wide;
 
 // Writes a list to the front of `room`, as much of it as fits there, and answers that part.
 pub fn signed_list<'a>(line: &[u8], list: u32, room: &'a mut [i32]) -> &'a mut [i32] {
@@ -63,5 +65,32 @@ pub fn finger(line: &[u8], list: u32) -> Finger {
         newer: words::signed(line, list, 0),
         older: words::signed(line, list, 1),
         contact: words::signed(line, list, 2),
+    }
+}
+
+// A word of two's complement as a signed number.
+fn signed_word(word: u64) -> i64 {
+    if word > 9223372036854775807 {
+        return -1 - (18446744073709551615 - word) as i64;
+    }
+    word as i64
+}
+
+// Two numbers of a list as the words of a column, the high one first.
+fn column(line: &[u8], list: u32, high: usize, low: usize) -> Wide {
+    Wide {
+        high: signed_word(words::long(line, list, high)),
+        low: words::long(line, list, low),
+    }
+}
+
+// A list as a book: the words of its four columns, and its count.
+pub fn book(line: &[u8], list: u32) -> Book {
+    Book {
+        stored: column(line, list, 0, 1),
+        work: column(line, list, 2, 3),
+        loss: column(line, list, 4, 5),
+        rounding: column(line, list, 6, 7),
+        count: words::unsigned(line, list, 8),
     }
 }

@@ -1,10 +1,12 @@
 // Answers the calls on standard input, one to a line, and prints what each answers and what the lent buffers hold after it.
-// A call is an operation's name, then each argument under its label, as whole numbers; a line that starts with '#' is printed as it is.
+// A call is an operation's name, then each argument under its label, as whole numbers, a book by its words; a line that starts with '#' is printed as it is.
 ghost use mathlib.Core.Path.{_≡_};
 ghost use lib.ListN.{length};
 
 mod arguments;
 mod block;
+mod booked_bend;
+mod booked_step;
 mod changes;
 mod neck;
 mod newest;
@@ -21,6 +23,8 @@ fn answer(line: &[u8]) {
         setup::answer(line)
     } else if words::first_is(line, b"bend") {
         changes::answer_bend(line)
+    } else if words::first_is(line, b"bend_booked") {
+        booked_bend::answer(line)
     } else if words::first_is(line, b"slide") {
         changes::answer_slide(line)
     } else if words::first_is(line, b"neck") {
@@ -29,6 +33,8 @@ fn answer(line: &[u8]) {
         start::answer(line)
     } else if words::first_is(line, b"step") {
         step::answer(line)
+    } else if words::first_is(line, b"step_booked") {
+        booked_step::answer(line)
     } else if words::first_is(line, b"block") {
         block::answer(line)
     } else if words::first_is(line, b"newest") {
@@ -60,10 +66,10 @@ fn answer_all(text: &[u8]) {
 }
 
 // Room for the calls.
-fn room() -> [u8; 262144]
-    ensures { λ r. ⌜ 262144 ≡ length r ⌝ }
+fn room() -> [u8; 1048576]
+    ensures { λ r. ⌜ 1048576 ≡ length r ⌝ }
 {
-    [0; 262144]
+    [0; 1048576]
 }
 
 fn main() {

@@ -9,7 +9,9 @@ fn report_answer(answer: StartAnswer) {
     match answer {
         StartAnswer::Accepted(started) => {
             let finger = started.finger;
+            let book = started.book;
             report::accepted(started.turn, finger);
+            report::book(book);
         }
         StartAnswer::Refused(refusal) => report::number(refusal),
     }

@@ -2,14 +2,8 @@
 use crate::arguments;
 use crate::report;
 use crate::words;
-use voice::Frame;
 use voice::StepAnswer;
 use voice::step;
-
-fn report_frame(frame: Frame) {
-    printing::text(b" frame");
-    printing::single_list(&[frame.bridge, frame.neck]);
-}
 
 fn report_answer(stepped: StepAnswer) {
     match stepped {
@@ -17,7 +11,7 @@ fn report_answer(stepped: StepAnswer) {
             let finger = made.finger;
             let frame = made.frame;
             report::accepted(made.turn, finger);
-            report_frame(frame);
+            report::frame(frame);
         }
         StepAnswer::Refused(refusal) => report::number(refusal),
     }

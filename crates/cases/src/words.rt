@@ -2,6 +2,7 @@
 // label are its list. Lists, and the numbers of a list, are counted from 0.
 ghost use Prim.Native.Nat.{_≤_, _<_};
 ghost use lib.ListN.{length};
+use std::num::wrapping_add_u64;
 
 // The byte at a place of the line; a line feed past its end.
 pub fn byte_at(line: &[u8], at: usize) -> u8 {
@@ -89,8 +90,8 @@ pub fn print_label(line: &[u8], list: u32) {
     print_word(line, start(line, list as usize * 1024 + 1024));
 }
 
-// The digits of the word that starts here, as a number modulo 2^32.
-fn digits(line: &[u8], start: usize) -> u32 {
+// The digits of the word that starts here, as a number modulo 2^64.
+fn digits(line: &[u8], start: usize) -> u64 {
     let mut size = 0;
     for i in start..line.len() {
         let byte = byte_at(line, i);
@@ -102,17 +103,23 @@ fn digits(line: &[u8], start: usize) -> u32 {
     size
 }
 
-// A number with a digit more, modulo 2^32; a minus is no digit.
-fn with_digit(size: u32, byte: u8) -> u32 {
+// A number with a digit more, modulo 2^64; a minus is no digit.
+fn with_digit(size: u64, byte: u8) -> u64 {
     if byte == b'-' {
         return size;
     }
-    ((size as u64 * 10 + (byte % 16) as u64) % 4294967296) as u32
+    let tenfold = wrapping_add_u64(size << 3, size << 1);
+    wrapping_add_u64(tenfold, (byte % 16) as u64)
 }
 
-// A number of a list, modulo 2^32.
-pub fn unsigned(line: &[u8], list: u32, number: usize) -> u32 {
+// A number of a list, modulo 2^64.
+pub fn long(line: &[u8], list: u32, number: usize) -> u64 {
     digits(line, number_start(line, list, number))
+}
+
+// The same modulo 2^32.
+pub fn unsigned(line: &[u8], list: u32, number: usize) -> u32 {
+    (long(line, list, number) % 4294967296) as u32
 }
 
 // The same modulo 2^16.
@@ -127,7 +134,7 @@ pub fn signed(line: &[u8], list: u32, number: usize) -> i32 {
 }
 
 // The number as a signed one; one that is no number of 31 bits and a sign is −2^31.
-fn with_sign(negative: bool, size: u32) -> i32 {
+fn with_sign(negative: bool, size: u64) -> i32 {
     if size > 2147483647 {
         return -2147483648;
     }

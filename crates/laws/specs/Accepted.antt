@@ -225,7 +225,7 @@ module _ {s : Setup} {v : Lent} (h : Fitting s v) where
 -- ---- a fresh start
 
 module _ (s : Setup) (first second contact : List ℤ) (w w' : ℤ) (v : Lent) where
-  pub start-accepted : start s first second contact w w' ≡ startedResult v → Passed (setupRules s) × Fitting s v
+  pub start-accepted : start s first second contact w w' ≡ startedResult s v → Passed (setupRules s) × Fitting s v
   unfolding start startRules setupRules fresh
   start-accepted q =
       let rules = startRules s first second contact w w' in

@@ -84,7 +84,7 @@ module _ {s : Setup} {neck : Neck} {x : State} (h : Examined s neck x) where
   unfolding cleared letGo
   at-letGo i = at-zip letGo refl hd (h .contact) i
 
-  spans-cleared : cleared s neck x .points spans points s
+  pub spans-cleared : cleared s neck x .points spans points s
   unfolding cleared letGo
   spans-cleared = spans-zip letGo refl hd (h .contact)
 

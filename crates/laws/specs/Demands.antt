@@ -8,6 +8,7 @@ use Rattle.model.specs.State.{stateOf}
 use Rattle.model.specs.Neck.{neckRules, NeckResult, lay}
 use Rattle.model.specs.Start.{startRules, StartResult, start}
 use Rattle.model.specs.Step.{callRules, resultRules, stepRules, StepResult, step}
+use Rattle.model.specs.Booking.{bookedRules, BookedResult, bookedStep, bentRules, BentResult, bookedBend}
 use Rattle.model.specs.Block.{blockRules}
 use Rattle.model.specs.Reading.{readingRules}
 use Rattle.model.specs.declared.Setup.{Setup}
@@ -22,8 +23,12 @@ use Rattle.laws.specs.Solved as Solved
 use Rattle.laws.specs.OnlyAbove as Above
 use Rattle.laws.specs.Run as Run
 use Rattle.laws.specs.Run.{run}
+use Rattle.promises.specs.Book.{OneNumber, BookedCalls, EnergyBook}
 use Rattle.promises.specs.Symmetry.{Symmetry}
 use Rattle.laws.specs.Symmetry as Symmetric
+use Rattle.laws.specs.Words as Words
+use Rattle.laws.specs.Booking as Booking
+use Rattle.laws.specs.BookedRun as BookedRun
 use Rattle.laws.specs.Exact as Exact
 use Rattle.laws.specs.Block as Block
 use Rattle.laws.specs.LongerSamples as Longer
@@ -34,7 +39,7 @@ setup-refuses s = by-table (setupRules s) tt _ _ (λ (r : Answer Setup). Refuses
 
 -- every refusal is the first whose condition holds, and leaves what was lent
 pub demand1 : Demand1
-unfolding setup bend slide lay start step setupRules neckRules startRules stepRules callRules resultRules blockRules readingRules
+unfolding setup bend slide lay start step bookedStep bookedBend bookedRules bentRules setupRules neckRules startRules stepRules callRules resultRules blockRules readingRules
 demand1 = record {
   setups = setup-refuses;
   bends = λ s L'. setup-refuses (withTension s L');
@@ -47,6 +52,10 @@ demand1 = record {
       (λ h. (h, tt, tt, tt)) (λ n h. ((omega arith, h), refl, refl, refl));
   steps = λ s neck v F. by-table (stepRules s neck (stateOf v) F) tt _ _
       (λ (r : StepResult). Refuses (stepRules s neck (stateOf v) F) (r .answer) × Leaves (r .answer) v (r .lent)) (λ h. (h, tt)) (λ n h. ((omega arith, h), refl));
+  bookedSteps = λ s neck v b F. by-table (bookedRules s neck (stateOf v) b F) tt _ _
+      (λ (r : BookedResult). Refuses (bookedRules s neck (stateOf v) b F) (r .answer) × Leaves (r .answer) v (r .lent) × Leaves (r .answer) b (r .book)) (λ h. (h, tt, tt)) (λ n h. ((omega arith, h), refl, refl));
+  bookedBends = λ s v b L'. by-table (bentRules s (stateOf v) b L') tt _ _
+      (λ (r : BentResult). Refuses (bentRules s (stateOf v) b L') (r .answer) × Leaves (r .answer) b (r .book)) (λ h. (h, tt)) (λ n h. ((omega arith, h), refl));
   one-number = first-unique;
 }
 
@@ -77,6 +86,18 @@ demand3 s _ t _ _ plan heights stiffness neck _ first second contact w w' v h qs
 -- of which a list of steps alone is the special case
 pub step-runs : StepRuns
 step-runs = Run.step-runs
+
+-- a booked call is the call itself
+pub booked-calls : BookedCalls
+booked-calls = Booking.booked-calls
+
+-- what a book holds after every list of booked calls, and that 17 is never given on the way
+pub energy-book : EnergyBook
+energy-book = BookedRun.energy-book
+
+-- the words of a column say one number
+pub one-number : OneNumber
+one-number = Words.one-number
 
 pub blocks : Blocks
 blocks = Block.blocks

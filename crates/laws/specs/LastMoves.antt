@@ -19,7 +19,7 @@ use Rattle.model.specs.Differences.{at, places, plus, minus, times, D1, D2}
 use Rattle.model.specs.Rounding.{nearest}
 use Rattle.model.specs.System.{System, rounded₁, rounded₂}
 use Rattle.model.specs.State.{State, Neck, Forces, PointsAndFinger}
-use Rattle.model.specs.Step.{underFinger, factor, rightSide, fingerSystem, kept, clear, cleared, gradients, A, c, system, moves, left, pulls, working, workedStep, nextState}
+use Rattle.model.specs.Step.{underFinger, factor, rightSide, fingerSystem, kept, letGo, clear, cleared, gradients, A, c, system, moves, left, pulls, working, workedStep, nextState}
 use Rattle.model.specs.declared.Finger.{Finger}
 use Rattle.model.specs.declared.Setup.{Setup}
 use Rattle.laws.specs.Strings.{_spans_, at-places, places-same, minus-tabulate}
@@ -42,6 +42,13 @@ unfolding kept
 kept-test h u ψ = ⊎-elim
     (λ l. ap (λ b. cond b (pos 0) ψ) (lt-leZ (h -ℤ u) (pos 0) (depth-above l)) ∙ ap (λ b. cond b ψ (pos 0)) (sym (lt-below u h l)))
     (λ l. ap (λ b. cond b (pos 0) ψ) (le-leZ (h -ℤ u) (pos 0) (depth-below l)) ∙ ap (λ b. cond b ψ (pos 0)) (sym (le-below u h l)))
+    (<-or-≤ u h)
+
+pub letGo-test : (h u ψ : ℤ) → letGo (h -ℤ u) ψ ≡ cond (below u h) (pos 0) ψ
+unfolding letGo
+letGo-test h u ψ = ⊎-elim
+    (λ l. ap (λ b. cond b ψ (pos 0)) (lt-leZ (h -ℤ u) (pos 0) (depth-above l)) ∙ ap (λ b. cond b (pos 0) ψ) (sym (lt-below u h l)))
+    (λ l. ap (λ b. cond b ψ (pos 0)) (le-leZ (h -ℤ u) (pos 0) (depth-below l)) ∙ ap (λ b. cond b (pos 0) ψ) (sym (le-below u h l)))
     (<-or-≤ u h)
 
 -- what is left of a gradient, which is never negative: whether it is above 0 need not be tested

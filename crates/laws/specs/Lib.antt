@@ -23,6 +23,10 @@ pub mod OnlyAbove
 pub mod Sizes
 pub mod MoveSizes
 pub mod Ready
+pub mod Words
+pub mod EnergySizes
+pub mod Booking
+pub mod BookedRun
 pub mod Call
 pub mod Advance
 pub mod Block

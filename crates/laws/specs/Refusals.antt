@@ -47,6 +47,12 @@ first-append [] back h = refl
 first-append ((n when false) ∷ front) back h = first-append front back (h .1)
 first-append ((n when true) ∷ front) back h = absurd (h .0)
 
+-- rows that are passed play no part
+pub first-between : (front passing back : List Rule) → Passed passing → firstOf (front ++ (passing ++ back)) ≡ firstOf (front ++ back)
+first-between [] passing back h = first-append passing back h
+first-between ((n when true) ∷ front) passing back h = refl
+first-between ((n when false) ∷ front) passing back h = first-between front passing back h
+
 -- and the only one
 pub first-of : (rules : List Rule) (n : ℕ) → IsFirst rules n → firstOf rules ≡ n
 first-of rules zero h = passed-first rules h

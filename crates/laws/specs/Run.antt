@@ -52,7 +52,7 @@ no-work t u = ap₂ (λ f g. pos 2 *ℤ f *ℤ at (t .moves .points) (e (t .setu
 
 -- what an accepted step from x to y gives
 module _ {s : Setup} {neck : Neck} {x : State} {F : Forces} {y : State} (h : StepFacts s neck x F y) where
-  step-balance : let t = workedStep s neck x F in storedEnergy s y ≡ storedEnergy s x +ℤ Energy.work t -ℤ Energy.loss t +ℤ Energy.roundingWork t
+  pub step-balance : let t = workedStep s neck x F in storedEnergy s y ≡ storedEnergy s x +ℤ Energy.work t -ℤ Energy.loss t +ℤ Energy.roundingWork t
   unfolding workedStep released
   step-balance =
       let t = workedStep s neck x F in

@@ -20,6 +20,8 @@ use Rattle.model.specs.State.{State, Lent, stateOf, Forces, Neck}
 use Rattle.model.specs.Neck.{Plan, neckRules}
 use Rattle.model.specs.Start.{startRules}
 use Rattle.model.specs.Step.{stepRules, callRules, resultRules, gradients, moves, workedStep, nextState, A, c, system, clear, cleared, kept, letGo, settled, somePull, dropped, totals, pulls, left}
+use Rattle.model.specs.Book.{Columns}
+use Rattle.model.specs.Booking.{bookedRules, bentRules}
 use Rattle.model.specs.Block.{blockRules}
 use Rattle.model.specs.Reading.{readingRules}
 use Rattle.model.specs.Table.{Line, _gives_, Right}
@@ -44,6 +46,15 @@ module _ (s : Setup) where
   pub step-order : (neck : Neck) (x : State) (F : Forces) → numbers (stepRules s neck x F) ≡ 1 ∷ 2 ∷ 3 ∷ 4 ∷ 5 ∷ 6 ∷ 7 ∷ 11 ∷ 12 ∷ 13 ∷ 14 ∷ []
   unfolding setupRules stepRules callRules resultRules
   step-order neck x F = refl
+
+  pub booked-order : (neck : Neck) (x : State) (b : Columns) (F : Forces)
+      → numbers (bookedRules s neck x b F) ≡ 1 ∷ 2 ∷ 3 ∷ 4 ∷ 5 ∷ 6 ∷ 7 ∷ 11 ∷ 12 ∷ 16 ∷ 17 ∷ 13 ∷ 14 ∷ []
+  unfolding setupRules bookedRules callRules resultRules
+  booked-order neck x b F = refl
+
+  pub bent-order : (x : State) (b : Columns) (L' : ℕ) → numbers (bentRules s x b L') ≡ 1 ∷ 2 ∷ 3 ∷ 4 ∷ 5 ∷ 6 ∷ 11 ∷ 17 ∷ []
+  unfolding setupRules bentRules
+  bent-order x b L' = refl
 
   pub block-order : (neck : Neck) (v : Lent) (fs : List ℤ) (samples : List Float) → numbers (blockRules s neck v fs samples) ≡ 1 ∷ 2 ∷ 3 ∷ 4 ∷ 5 ∷ 6 ∷ 15 ∷ 7 ∷ 11 ∷ []
   unfolding setupRules blockRules

@@ -86,7 +86,7 @@ pub lines : List (Line Shown)
 lines =
     -- a fresh start with both finger heights 0, over buffers that hold anything
     isStart (start bench (pos 7 ∷ []) (pos 8 ∷ []) (pos 9 ∷ []) (pos 0) (pos 0))
-    gives isStart record { answer = accepted record { turn = 0; finger = restingFinger }; first = pos 0 ∷ []; second = pos 0 ∷ []; contact = pos 0 ∷ [] }
+    gives isStart record { answer = accepted record { turn = 0; finger = restingFinger; book = record { stored = pos 0; work = pos 0; loss = pos 0; rounding = pos 0; count = 0 } }; first = pos 0 ∷ []; second = pos 0 ∷ []; contact = pos 0 ∷ [] }
     -- pluck 4096, then no force: 1, 0, −1, 0
     ∷ plucks (pos 4096 ∷ pos 0 ∷ pos 0 ∷ pos 0 ∷ [])
     gives areSteps (after one (onePoint (pos 0) (pos 1) (pos 0) 1 restingFinger) ∷ after zero-float (onePoint (pos 0) (pos 1) (pos 0) 0 restingFinger)

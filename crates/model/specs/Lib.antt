@@ -11,10 +11,14 @@ pub mod System
 pub mod State
 pub mod Neck
 pub mod Step
-pub mod Start
 pub mod Steps
 pub mod Energy
 pub mod Run
+pub mod Wide
+pub mod Book
+pub mod Start
+pub mod Booking
+pub mod BookedRun
 pub mod Block
 pub mod Reading
 pub mod Answers
@@ -26,4 +30,5 @@ pub mod Ties
 pub mod WorkedDrops
 pub mod WorkedCalls
 pub mod WorkedRuns
+pub mod WorkedBook
 pub mod Boundaries

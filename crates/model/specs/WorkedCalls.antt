@@ -7,10 +7,11 @@ use Prim.Native.Nat.{ℕ}
 use lib.IntN.{ℤ, pos, negsuc, negℤ}
 use lib.Ieee.{Float, nan, fin, round}
 use lib.ListN.{replicate}
+use Rattle.integers.specs.Sum.{sum}
 use Rattle.model.specs.Ranges.{between, inside, displacementOk, contactOk, forceOk, heightOk}
 use Rattle.model.specs.Refusal.{accepted, refused, firstOf}
 use Rattle.model.specs.Setup.{setupRules, placeOk, lengthOk}
-use Rattle.model.specs.Differences.{plus, minus, times, D1}
+use Rattle.model.specs.Differences.{plus, minus, times, D1, dot, E}
 use Rattle.model.specs.Gradient.{gradient, root, greatest}
 use Rattle.model.specs.Rounding.{nearest, floor}
 use Rattle.model.specs.System.{rounded₁, rounded₂}
@@ -18,7 +19,7 @@ use Rattle.model.specs.State.{Lent, stateOf, put}
 use Rattle.model.specs.Neck.{neckRules, laid, lay}
 use Rattle.model.specs.Start.{startRules, fresh, start}
 use Rattle.model.specs.Step.{gradients, moves, workedStep, nextState, A, c, system, callRules, resultRules, stepRules, frame, step, clear, cleared, kept, letGo, settled, somePull, dropped, totals, pulls, left}
-use Rattle.model.specs.Energy.{limits}
+use Rattle.model.specs.Energy.{storedEnergy, limits}
 use Rattle.model.specs.Fraction.{fraction}
 use Rattle.model.specs.Block.{block, blockRules, play}
 use Rattle.model.specs.Reading.{reading, readingRules}
@@ -49,8 +50,8 @@ not-laid-is = refl
 
 -- a fresh start over buffers that hold anything
 started-is : start workedSetup (replicate 4 (pos 7)) (replicate 4 (pos 8)) (replicate 4 (pos 9)) (pos 5) (negℤ (pos 6))
-    ≡ record { answer = accepted record { turn = 0; finger = finger (pos 5) (negℤ (pos 6)) (pos 0) }; first = replicate 4 (pos 0); second = replicate 4 (pos 0); contact = replicate 4 (pos 0) }
-unfolding start startRules fresh setupRules placeOk lengthOk between inside displacementOk
+    ≡ record { answer = accepted record { turn = 0; finger = finger (pos 5) (negℤ (pos 6)) (pos 0); book = record { stored = pos 726000; work = pos 0; loss = pos 0; rounding = pos 0; count = 0 } }; first = replicate 4 (pos 0); second = replicate 4 (pos 0); contact = replicate 4 (pos 0) }
+unfolding start startRules fresh setupRules placeOk lengthOk between inside displacementOk stateOf storedEnergy minus zipWith D1 dot E sum
 started-is = refl
 
 -- a finger below 0: no buffer changes

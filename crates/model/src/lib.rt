@@ -37,6 +37,23 @@ pub struct Frame {
     pub neck: f32,
 }
 
+// 02, item 6: a signed number of 128 bits in two words of 64, two's complement, the high word first.
+#[repr(C)]
+pub struct Wide {
+    pub high: i64,
+    pub low: u64,
+}
+
+// 02, item 6: the energy book, kept beside the voice. Its columns are wide numbers; `count` is that of the accepted steps.
+#[repr(C)]
+pub struct Book {
+    pub stored: Wide,
+    pub work: Wide,
+    pub loss: Wide,
+    pub rounding: Wide, // rounding work
+    pub count: u32,
+}
+
 // What each operation answers: what it made, or the number of its refusal.
 
 pub enum SetupAnswer {
@@ -49,10 +66,11 @@ pub enum NeckAnswer {
     Refused(u32),
 }
 
-// A fresh start's turn and finger.
+// A fresh start's turn, finger and book.
 pub struct Started {
     pub turn: u32,
     pub finger: Finger,
+    pub book: Book,
 }
 
 pub enum StartAnswer {
@@ -69,6 +87,30 @@ pub struct Stepped {
 
 pub enum StepAnswer {
     Accepted(Stepped),
+    Refused(u32),
+}
+
+// The turn and the finger after a booked step, its frame, and the book with the step in it.
+pub struct Booked {
+    pub turn: u32,
+    pub finger: Finger,
+    pub frame: Frame,
+    pub book: Book,
+}
+
+pub enum BookedAnswer {
+    Accepted(Booked),
+    Refused(u32),
+}
+
+// The setup after a booked bend, and the book with the bend in it.
+pub struct Bent {
+    pub setup: Setup,
+    pub book: Book,
+}
+
+pub enum BentAnswer {
+    Accepted(Bent),
     Refused(u32),
 }
 

@@ -55,6 +55,20 @@ fn space() {
     text(b" ");
 }
 
+// The lower 32 bits of a number in two's complement.
+pub fn lower_half(x: i64) -> u32 {
+    (x & 4294967295) as u32
+}
+
+// A number of 128 bits by its words, in hexadecimal, each behind a space, the high one first.
+pub fn words(high: i64, low: u64) {
+    space();
+    io::print_hex(1, lower_half(high >> 32) as u64, 8);
+    io::print_hex(1, lower_half(high) as u64, 8);
+    space();
+    io::print_hex(1, low, 16);
+}
+
 // A list: each element behind a space.
 pub fn signed_list(numbers: &[i32]) {
     for i in 0..numbers.len() {

@@ -89,7 +89,7 @@ Demand3 =
     -- any neck laid for its N, with any accepted setup that has it,
     → (t : Setup) → setup t ≡ accepted t → N t ≡ N s → (plan : Plan) (heights : List ℤ) (stiffness : List ℕ) (neck : Neck) → lay t plan heights stiffness ≡ laidResult neck
     -- and any fresh start accepted on it,
-    → (first second contact : List ℤ) (w w' : ℤ) (v : Lent) → start s first second contact w w' ≡ startedResult v
+    → (first second contact : List ℤ) (w w' : ℤ) (v : Lent) → start s first second contact w w' ≡ startedResult s v
     -- and for every list of steps with any forces, bends and slides, refused calls included
     → (qs : List Request) → Run neck (voice s v) qs
 

@@ -1,4 +1,4 @@
--- What is promised of the model, as statements only, in the terms of documents 01 and 02; demand 3 is in Energy, item 2's symmetry in Symmetry. Crate `laws`
+-- What is promised of the model, as statements only, in the terms of documents 01 and 02; demand 3 is in Energy, item 2's symmetry in Symmetry, item 6's book in Book. Crate `laws`
 -- proves each in its file Demands.
 use mathlib.Core.Path.{_≡_}
 use mathlib.Core.Bool.{true, not, cond}
@@ -19,8 +19,10 @@ use Rattle.model.specs.Rounding.{nearest}
 use Rattle.model.specs.System.{System}
 use Rattle.model.specs.State.{State, Lent, byTurn, newest, stateOf, Neck, Forces, PointsAndFinger}
 use Rattle.model.specs.Neck.{Plan, fretAt, neckRules, lay}
-use Rattle.model.specs.Start.{startRules, fresh, startedResult, start}
+use Rattle.model.specs.Start.{startRules, fresh, FreshStart, startedResult, start}
 use Rattle.model.specs.Step.{A, c, system, gradients, WorkedStep, workedStep, nextState, callRules, stepRules, step}
+use Rattle.model.specs.Book.{Columns}
+use Rattle.model.specs.Booking.{bookedRules, bookedStep, bentRules, bookedBend}
 use Rattle.model.specs.Steps.{Voice, voice, Call, history, acceptedSteps, voiceAfter}
 use Rattle.model.specs.Fraction.{Holds}
 use Rattle.model.specs.Block.{pairs, countsWrong, BlockResult, stopped, blockRules, block}
@@ -28,7 +30,6 @@ use Rattle.model.specs.Reading.{readingRules, reading}
 use Rattle.model.specs.Answers.{readingResult}
 use Rattle.model.specs.declared.Setup.{Setup}
 use Rattle.model.specs.declared.Frame.{Frame}
-use Rattle.model.specs.declared.Started.{Started}
 
 -- of a list: each in turn
 abbrev pub Every {ℓ κ} : {B : Type ℓ} → (B → Type κ) → List B → Type κ
@@ -67,6 +68,10 @@ pub record Demand1 : Type 0 where
   pub starts : (s : Setup) (first second contact : List ℤ) (w w' : ℤ) → let r = start s first second contact w w' in
       Refuses (startRules s first second contact w w') (r .answer) × Leaves (r .answer) first (r .first) × Leaves (r .answer) second (r .second) × Leaves (r .answer) contact (r .contact)
   pub steps : (s : Setup) (neck : Neck) (v : Lent) (F : Forces) → let r = step s neck v F in Refuses (stepRules s neck (stateOf v) F) (r .answer) × Leaves (r .answer) v (r .lent)
+  -- 02, item 6
+  pub bookedSteps : (s : Setup) (neck : Neck) (v : Lent) (b : Columns) (F : Forces) → let r = bookedStep s neck v b F in
+      Refuses (bookedRules s neck (stateOf v) b F) (r .answer) × Leaves (r .answer) v (r .lent) × Leaves (r .answer) b (r .book)
+  pub bookedBends : (s : Setup) (v : Lent) (b : Columns) (L' : ℕ) → let r = bookedBend s v b L' in Refuses (bentRules s (stateOf v) b L') (r .answer) × Leaves (r .answer) b (r .book)
   -- a table gives one number: so each is given just when its condition holds and no earlier one does
   pub one-number : (rules : List Rule) (m n : ℕ) → IsFirst rules m → IsFirst rules n → m ≡ n
 
@@ -83,7 +88,7 @@ pub record Accepts : Type 0 where
   pub slides : (s a : Setup) (p' : ℕ) → slide s p' ≡ accepted a → a ≡ withPlace s p'
   pub necks : (s : Setup) (plan : Plan) (heights : List ℤ) (stiffness : List ℕ) → let r = lay s plan heights stiffness in r .answer ≡ accepted tt
       → (length (r .heights) ≡ points s) × (length (r .stiffness) ≡ points s) × ((k : ℕ) → k < points s → LaidAt plan (suc k) (getD (r .heights) k (pos 0)) (getD (r .stiffness) k 0))
-  pub starts : (s : Setup) (first second contact : List ℤ) (w w' : ℤ) (a : Started) → let r = start s first second contact w w' in r .answer ≡ accepted a → r ≡ startedResult (fresh s w w')
+  pub starts : (s : Setup) (first second contact : List ℤ) (w w' : ℤ) (a : FreshStart) → let r = start s first second contact w w' in r .answer ≡ accepted a → r ≡ startedResult s (fresh s w w')
 
 -- ---- rounding: to the nearest whole number, a tie to the even one
 

@@ -20,7 +20,7 @@ fn inside_i32(x: i32, low: i32, high: i32) -> bool
 }
 
 // Every number lies from low to high.
-fn all_inside_i32(numbers: &[i32], low: i32, high: i32) -> bool
+pub fn all_inside_i32(numbers: &[i32], low: i32, high: i32) -> bool
     ensures { λ r. ⌜ r ≡ all (λ x. inside low x high) (now (numbers .entry)) ⌝ }
 {
     let mut ok = true;

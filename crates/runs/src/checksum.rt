@@ -1,4 +1,7 @@
 // A running checksum of 32 bits: a polynomial modulo the greatest prime of 32 bits.
+use printing::lower_half;
+use voice::Book;
+use voice::Wide;
 
 // The checksum with a word more.
 pub fn word(sum: u32, word: u32) -> u32 {
@@ -12,6 +15,30 @@ pub fn signed(sum: u32, x: i32) -> u32 {
         word(sum, sign),
         (printing::magnitude(x) % 4294967296) as u32,
     )
+}
+
+// With the words of a column, in halves, the high one first.
+fn column(sum: u32, column: Wide) -> u32 {
+    let high = column.high;
+    let low = column.low;
+    let after = word(word(sum, lower_half(high >> 32)), lower_half(high));
+    word(
+        word(after, (low / 4294967296 % 4294967296) as u32),
+        (low % 4294967296) as u32,
+    )
+}
+
+// With the columns and the count of a book.
+pub fn book(sum: u32, book: Book) -> u32 {
+    let stored = book.stored;
+    let work = book.work;
+    let loss = book.loss;
+    let rounding = book.rounding;
+    let mut after = column(sum, stored);
+    after = column(after, work);
+    after = column(after, loss);
+    after = column(after, rounding);
+    word(after, book.count)
 }
 
 // With the first `count` of an array.

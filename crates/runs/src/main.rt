@@ -1,5 +1,5 @@
-// Long runs on drawn setups, necks, fingers and forces, with bends and slides. After each stretch of 256 frames, played in blocks and single steps in turn,
-// a line says what it came to. The file stdout is written by another implementation from the same seeds.
+// Long runs on drawn setups, necks, fingers and forces, with bends and slides. After each stretch of 256 frames, played in blocks and single steps in turn, or
+// in booked steps, a line says what it came to. The file stdout is written by another implementation from the same seeds.
 ghost use Prim.Native.Nat.{_≤_, _<_};
 
 mod changes;
@@ -54,13 +54,16 @@ fn start_if_refused(before: State) -> State {
     start(before)
 }
 
-// Starts anew in a quarter of the draws.
-fn start_at_times(before: State) -> State {
+// Before a stretch: starts anew in a quarter of the draws. In the last three stretches steps and bends are booked, and the first of these always starts anew.
+fn start_at_times(before: State, stretch: u32) -> State {
     let quarter = generator::draw(before.drawn, 4);
     let mut after = before;
     after.drawn = quarter.next;
+    after.booked = stretch >= 18;
     if quarter.number > 0 {
-        return after;
+        if stretch != 18 {
+            return after;
+        }
     }
     start(after)
 }
@@ -78,12 +81,12 @@ fn part(heights: &[i32], stiffness: &[u16], before: State, in_block: bool) -> St
     }
 }
 
-// 256 frames: a block, single steps, a block, single steps.
+// 256 frames: a block, single steps, a block, single steps; where steps are booked, single steps alone.
 fn stretch(heights: &[i32], stiffness: &[u16], before: State) -> State {
     let points = room::points(before.setup.segments);
     let mut now = before;
     for i in 0..4u32 {
-        let played = part(heights, stiffness, now, i % 2 == 0);
+        let played = part(heights, stiffness, now, (i % 2 == 0) & !now.booked);
         now = start_if_refused(state::summed(played, points));
     }
     now
@@ -93,7 +96,7 @@ fn stretch(heights: &[i32], stiffness: &[u16], before: State) -> State {
 fn stretches(run: u32, setup: Setup, heights: &[i32], stiffness: &[u16], drawn: u32) {
     let mut now = start(state::none(drawn, setup));
     for i in 0..21 {
-        now = stretch(heights, stiffness, start_at_times(now));
+        now = stretch(heights, stiffness, start_at_times(now, i));
         report::stretch(run, i, now);
     }
 }

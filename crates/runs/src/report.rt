@@ -2,6 +2,7 @@
 use crate::state;
 use crate::state::State;
 use std::num::wrapping_add_u64;
+use voice::Book;
 
 // A sum of sizes, of the numbers that are below 0, or of the others.
 fn sizes(numbers: [i32; 127], below: bool) -> u64 {
@@ -53,6 +54,19 @@ fn strings_and_finger(state: State) {
     printing::signed_list(&[state.finger.newer, state.finger.older, state.finger.contact]);
 }
 
+fn columns_and_count(book: Book) {
+    let stored = book.stored;
+    let work = book.work;
+    let loss = book.loss;
+    let rounding = book.rounding;
+    printing::text(b" book");
+    printing::words(stored.high, stored.low);
+    printing::words(work.high, work.low);
+    printing::words(loss.high, loss.low);
+    printing::words(rounding.high, rounding.low);
+    labelled(b" ", book.count);
+}
+
 fn last_samples(state: State) {
     let samples = state::samples(state);
     printing::text(b" samples");
@@ -73,6 +87,8 @@ pub fn stretch(run: u32, stretch: u32, state: State) {
     labelled(b" place ", state.setup.finger.place);
     strings_and_finger(state);
     labelled(b" turn ", state.turn);
+    let book = state.book;
+    columns_and_count(book);
     last_samples(state);
     checksum(state.checksum);
     printing::text(b"\n");

@@ -5,12 +5,17 @@ ghost use lib.ListN.{length};
 use crate::checksum;
 use crate::room;
 use std::num::wrapping_add_u32;
+use voice::BentAnswer;
 use voice::BlockAnswer;
+use voice::Book;
+use voice::BookedAnswer;
 use voice::Finger;
+use voice::Frame;
 use voice::Setup;
 use voice::SetupAnswer;
 use voice::StartAnswer;
 use voice::StepAnswer;
+use voice::Wide;
 
 pub struct State {
     pub drawn: u32, // by the generator
@@ -21,6 +26,8 @@ pub struct State {
     pub samples: [f32; 128], // of the last 64 frames
     pub turn: u32,
     pub finger: Finger,
+    pub booked: bool, // whether steps and bends are
+    pub book: Book, // with those since the last fresh start, where they are
     pub steps: u32, // accepted
     pub tensions_refused: u32, // bends refused with 2
     pub sums_refused: u32, // with 3
@@ -30,6 +37,17 @@ pub struct State {
     pub contacts_refused: u32, // with 14
     pub refusal: u32, // of the last call, 0 if it had none
     pub checksum: u32,
+}
+
+fn empty_book() -> Book {
+    let zero = Wide { high: 0, low: 0 };
+    Book {
+        stored: zero,
+        work: zero,
+        loss: zero,
+        rounding: zero,
+        count: 0,
+    }
 }
 
 // Nothing yet.
@@ -47,6 +65,8 @@ pub fn none(drawn: u32, setup: Setup) -> State {
             older: 0,
             contact: 0,
         },
+        booked: false,
+        book: empty_book(),
         steps: 0,
         tensions_refused: 0,
         sums_refused: 0,
@@ -107,8 +127,10 @@ pub fn after_start(before: State, answer: StartAnswer) -> State {
     match answer {
         StartAnswer::Accepted(started) => {
             let finger = started.finger;
+            let book = started.book;
             after.turn = started.turn;
             after.finger = finger;
+            after.book = book;
         }
         StartAnswer::Refused(number) => after.refusal = number,
     }
@@ -144,6 +166,21 @@ pub fn after_change(before: State, answer: SetupAnswer) -> State {
     }
 }
 
+// After a booked bend.
+pub fn after_bend(before: State, answer: BentAnswer) -> State {
+    match answer {
+        BentAnswer::Accepted(bent) => {
+            let mut after = after_refusal(before, 0);
+            let setup = bent.setup;
+            let book = bent.book;
+            after.setup = setup;
+            after.book = book;
+            after
+        }
+        BentAnswer::Refused(number) => after_refusal(before, number),
+    }
+}
+
 // After a block that wrote these samples.
 pub fn after_block(before: State, played: BlockAnswer, samples: [f32; 128]) -> State {
     let mut after = after_refusal(before, played.refusal);
@@ -155,33 +192,60 @@ pub fn after_block(before: State, played: BlockAnswer, samples: [f32; 128]) -> S
     after
 }
 
+// After an accepted step that answered this, whose frame is this one of 64.
+fn after_accepted(before: State, turn: u32, finger: Finger, heard: Frame, frame: usize) -> State
+    requires { ⌜ frame < 64 ⌝ }
+{
+    let mut after = after_refusal(before, 0);
+    after.turn = turn;
+    after.finger = finger;
+    after.steps = wrapping_add_u32(before.steps, 1);
+    after.samples[2 * frame] = heard.bridge;
+    after.samples[2 * frame + 1] = heard.neck;
+    after
+}
+
 // After a step whose frame is this one of 64.
 pub fn after_step(before: State, answer: StepAnswer, frame: usize) -> State
     requires { ⌜ frame < 64 ⌝ }
 {
     match answer {
         StepAnswer::Accepted(stepped) => {
-            let mut after = after_refusal(before, 0);
             let finger = stepped.finger;
-            after.turn = stepped.turn;
-            after.finger = finger;
-            after.steps = wrapping_add_u32(before.steps, 1);
-            after.samples[2 * frame] = stepped.frame.bridge;
-            after.samples[2 * frame + 1] = stepped.frame.neck;
-            after
+            let heard = stepped.frame;
+            after_accepted(before, stepped.turn, finger, heard, frame)
         }
         StepAnswer::Refused(number) => after_refusal(before, number),
     }
 }
 
-// With turn, finger, strings, contact variables and samples in the checksum.
+// After a booked step whose frame is this one of 64.
+pub fn after_booked_step(before: State, answer: BookedAnswer, frame: usize) -> State
+    requires { ⌜ frame < 64 ⌝ }
+{
+    match answer {
+        BookedAnswer::Accepted(booked) => {
+            let finger = booked.finger;
+            let heard = booked.frame;
+            let book = booked.book;
+            let mut after = after_accepted(before, booked.turn, finger, heard, frame);
+            after.book = book;
+            after
+        }
+        BookedAnswer::Refused(number) => after_refusal(before, number),
+    }
+}
+
+// With turn, book, finger, strings, contact variables and samples in the checksum.
 pub fn summed(before: State, points: usize) -> State {
     let mut after = before;
     let first = before.first;
     let second = before.second;
     let contact = before.contact;
     let samples = before.samples;
+    let book = before.book;
     let mut sum = checksum::word(before.checksum, before.turn);
+    sum = checksum::book(sum, book);
     sum = checksum::signed(sum, before.finger.newer);
     sum = checksum::signed(sum, before.finger.older);
     sum = checksum::signed(sum, before.finger.contact);

@@ -6,12 +6,12 @@ use crate::check_setup;
 use model::Setup;
 use model::SetupAnswer;
 
-// The setup with another tension L, or the number.
-pub fn bend(setup: Setup, tension: u32) -> SetupAnswer
-    ensures { λ r. ⌜ setupResult r ≡ Changes.bend setup tension ⌝ }
+// The setup with another tension L, not examined.
+pub fn with_tension(setup: Setup, tension: u32) -> Setup
+    ensures { λ r. ⌜ r ≡ Changes.withTension setup tension ⌝ }
 {
     let finger = setup.finger;
-    check_setup(Setup {
+    Setup {
         segments: setup.segments,
         tension,
         stiffness: setup.stiffness,
@@ -21,5 +21,12 @@ pub fn bend(setup: Setup, tension: u32) -> SetupAnswer
         pluck_place: setup.pluck_place,
         bridge_place: setup.bridge_place,
         neck_place: setup.neck_place,
-    })
+    }
+}
+
+// The setup with another tension L, or the number.
+pub fn bend(setup: Setup, tension: u32) -> SetupAnswer
+    ensures { λ r. ⌜ setupResult r ≡ Changes.bend setup tension ⌝ }
+{
+    check_setup(with_tension(setup, tension))
 }

@@ -1,5 +1,5 @@
-// 01, 'One step': the fresh start, with both strings and all contact variables zero, turn 0 and the finger at its two heights.
-// `finger` examines them, `clearing` clears a buffer.
+// 01, 'One step': the fresh start, with both strings and all contact variables zero, turn 0 and the finger at its two heights; and 02, item 6: its book.
+// `finger` examines the heights, `clearing` clears a buffer.
 pub mod clearing;
 pub mod finger;
 
@@ -8,6 +8,8 @@ ghost use Rattle.model.specs.Answers.{startResult};
 ghost use Rattle.model.specs.Start.{start};
 use crate::clearing::clear;
 use crate::finger::finger_ok;
+use book::entering::new_book;
+use energy::stored::stored_energy;
 use model::Finger;
 use model::Setup;
 use model::StartAnswer;
@@ -15,7 +17,7 @@ use model::Started;
 use ranges::lengths::three_lengths_ok;
 use setup::setup_refusal;
 
-// Clears the three lent buffers and answers turn and finger, or answers the number and leaves them.
+// Clears the three lent buffers and answers turn, finger and book, or answers the number and leaves them.
 pub fn fresh_start(
     setup: Setup,
     first: &mut [i32],
@@ -40,12 +42,15 @@ pub fn fresh_start(
     clear(first);
     clear(second);
     clear(contact);
+    let finger = Finger {
+        newer: height,
+        older,
+        contact: 0,
+    };
+    let stored = stored_energy(setup, first, second, contact, finger);
     StartAnswer::Accepted(Started {
         turn: 0,
-        finger: Finger {
-            newer: height,
-            older,
-            contact: 0,
-        },
+        finger,
+        book: new_book(stored),
     })
 }

@@ -6,4 +6,4 @@ use Rattle.cases.proofs.room.Statement.{statement}
 use Rattle.cases.proofs.room.Tie as tie
 
 pub room-spec : {M : Type 1} → statement M
-room-spec = tie.close (tie.spec (λ c. sym (length-replicate {A = ℕ} 262144 0)))
+room-spec = tie.close (tie.spec (λ c. sym (length-replicate {A = ℕ} 1048576 0)))

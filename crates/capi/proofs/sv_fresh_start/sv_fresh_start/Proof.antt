@@ -6,8 +6,7 @@ use mir.Val.{toZ, ofZ}
 use mir.Facts.{toZ-ofZ}
 use Rattle.model.specs.Answers.{startResult}
 use Rattle.model.specs.Start.{start}
-use Rattle.capi.specs.Rows.{setupOf}
-use Rattle.capi.specs.declared.sv_fresh_start.StartRow.{StartRow}
+use Rattle.capi.specs.Rows.{setupOf, StartView}
 use Rattle.capi.specs.Calls.{StartCall, startCall}
 use Rattle.capi.proofs.sv_fresh_start.sv_fresh_start.Statement.{statement}
 use Rattle.capi.proofs.sv_fresh_start.sv_fresh_start.Tie as tie
@@ -20,7 +19,7 @@ module _ (c : tie.After-fresh-start) where
   k = made-from .before
 
   -- the caller's buffers after the call, with a row
-  abbrev called : StartRow → StartCall
+  abbrev called : StartView → StartCall
   called row = record { row = row; first = c .fresh-start .last .1 .0; second = c .fresh-start .last .1 .1 .0; contact = c .fresh-start .last .1 .1 .1 .0 }
 
   started : startResult (c .fresh-start .result) (c .fresh-start .last .1 .0) (c .fresh-start .last .1 .1 .0) (c .fresh-start .last .1 .1 .1 .0)

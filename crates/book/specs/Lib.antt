@@ -1,0 +1,2 @@
+-- The energy book: what a step and a bend enter in it.
+pub mod Entering

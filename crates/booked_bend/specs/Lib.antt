@@ -1,0 +1,2 @@
+-- A booked bend of a state, and by the turn that of a voice.
+pub mod BookedBend
