@@ -1,4 +1,2 @@
--- What the contracts of the exported functions cite: the setup from its row of numbers, the answers as rows, and the results of the model's operations in the
--- form that a C caller gets.
-pub mod Rows
+-- What the contracts of the exported functions cite: the results of the operations that write, in the form that a C caller gets.
 pub mod Calls

@@ -1,8 +1,5 @@
 // The string voice for C and Rust: every operation of `voice` as an exported function, which include/string_voice.h declares. A slice is a pointer and a length.
-// A file has the name of the function that it exports, and holds the row of numbers that its answer is for C. In an answer the refusal is 0 where there is none, and
-// after a refusal every number that has no meaning is 0.
-mod changed_row;
-mod setup_row;
+// A file has the name of the function that it exports; the rows of numbers that it takes and answers are those of `rows`.
 mod sv_bend;
 mod sv_bend_booked;
 mod sv_check_setup;

@@ -1,46 +1,15 @@
-// A booked bend, for C, and the row of its answer.
+// A booked bend, for C.
 ghost use mathlib.Core.Path.{_≡_};
-ghost use Rattle.model.specs.Answers.{bentResult};
 ghost use Rattle.model.specs.Book.{columns};
 ghost use Rattle.model.specs.Booking.{bookedBend};
-ghost use Rattle.capi.specs.Rows.{setupOf, bentView, bentRow};
-use crate::changed_row::row_of;
-use crate::setup_row::SetupRow;
-use crate::setup_row::setup_of;
-use model::BentAnswer;
+ghost use Rattle.rows.specs.Rows.{setupOf, bentView, bentRow};
 use model::Book;
 use model::Finger;
+use rows::bent_row::BentRow;
+use rows::bent_row::bent_row;
+use rows::setup_row::SetupRow;
+use rows::setup_row::setup_of;
 use voice::bend_booked;
-
-// The refusal, 0 where there is none, the new setup and the book; after a refusal the setup and the book that were passed in.
-#[repr(C)]
-pub struct BentRow {
-    pub refusal: u32,
-    pub setup: SetupRow,
-    pub book: Book,
-}
-
-// The row of an answer, where setup and book are those that were passed in.
-pub fn bent_row(answer: BentAnswer, setup: SetupRow, book: Book) -> BentRow
-    ensures { λ r. ⌜ bentView r ≡ bentRow setup (bentResult book answer) ⌝ }
-{
-    match answer {
-        BentAnswer::Accepted(bent) => {
-            let next = bent.setup;
-            let entered = bent.book;
-            BentRow {
-                refusal: 0,
-                setup: row_of(next),
-                book: entered,
-            }
-        }
-        BentAnswer::Refused(refusal) => BentRow {
-            refusal,
-            setup,
-            book,
-        },
-    }
-}
 
 // `voice::bend_booked`.
 #[no_mangle]

@@ -1,22 +1,11 @@
 // The examination of a setup, for C.
 ghost use mathlib.Core.Path.{_≡_};
-ghost use Rattle.model.specs.Answers.{setupResult};
 ghost use Rattle.model.specs.Setup as Setups;
-ghost use Rattle.capi.specs.Rows.{number, setupOf};
-use crate::setup_row::SetupRow;
-use crate::setup_row::setup_of;
-use model::SetupAnswer;
+ghost use Rattle.rows.specs.Rows.{number, setupOf};
+use rows::numbers::setup_number;
+use rows::setup_row::SetupRow;
+use rows::setup_row::setup_of;
 use voice::check_setup;
-
-// The number of an answer on a setup: the refusal, 0 where it is accepted.
-pub fn setup_number(answer: SetupAnswer) -> u32
-    ensures { λ r. ⌜ r ≡ number (setupResult answer) ⌝ }
-{
-    match answer {
-        SetupAnswer::Accepted(_) => 0,
-        SetupAnswer::Refused(refusal) => refusal,
-    }
-}
 
 // `voice::check_setup`: the refusal, 0 where the setup is accepted.
 #[no_mangle]

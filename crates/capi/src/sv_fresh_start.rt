@@ -1,54 +1,13 @@
-// The fresh start, for C, and the row of its answer.
+// The fresh start, for C.
 ghost use mathlib.Core.Path.{_≡_};
-ghost use Rattle.model.specs.Answers.{startAnswer};
 ghost use Rattle.model.specs.Start.{start};
 ghost use Rattle.capi.specs.Calls.{startCall};
-ghost use Rattle.capi.specs.Rows.{setupOf, startView, startRow};
-use crate::setup_row::SetupRow;
-use crate::setup_row::setup_of;
-use book::entering::new_book;
-use model::Book;
-use model::Finger;
-use model::StartAnswer;
-use model::Wide;
+ghost use Rattle.rows.specs.Rows.{setupOf, startView};
+use rows::setup_row::SetupRow;
+use rows::setup_row::setup_of;
+use rows::start_row::StartRow;
+use rows::start_row::start_row;
 use voice::fresh_start;
-
-// The refusal, and turn, finger and book.
-#[repr(C)]
-pub struct StartRow {
-    pub refusal: u32,
-    pub turn: u32,
-    pub finger: Finger,
-    pub book: Book,
-}
-
-// The row of an answer.
-pub fn start_row(answer: StartAnswer) -> StartRow
-    ensures { λ r. ⌜ startView r ≡ startRow (startAnswer answer) ⌝ }
-{
-    match answer {
-        StartAnswer::Accepted(started) => {
-            let finger = started.finger;
-            let book = started.book;
-            StartRow {
-                refusal: 0,
-                turn: started.turn,
-                finger,
-                book,
-            }
-        }
-        StartAnswer::Refused(refusal) => StartRow {
-            refusal,
-            turn: 0,
-            finger: Finger {
-                newer: 0,
-                older: 0,
-                contact: 0,
-            },
-            book: new_book(Wide { high: 0, low: 0 }),
-        },
-    }
-}
 
 // `voice::fresh_start`.
 #[no_mangle]

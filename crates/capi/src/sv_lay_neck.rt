@@ -1,23 +1,12 @@
 // Laying the neck, for C.
 ghost use mathlib.Core.Path.{_≡_};
-ghost use Rattle.model.specs.Answers.{neckAnswer};
 ghost use Rattle.model.specs.Neck.{lay};
 ghost use Rattle.capi.specs.Calls.{neckCall};
-ghost use Rattle.capi.specs.Rows.{number, setupOf};
-use crate::setup_row::SetupRow;
-use crate::setup_row::setup_of;
-use model::NeckAnswer;
+ghost use Rattle.rows.specs.Rows.{setupOf};
+use rows::numbers::neck_number;
+use rows::setup_row::SetupRow;
+use rows::setup_row::setup_of;
 use voice::lay_neck;
-
-// The number of an answer on a neck: the refusal, 0 where it is laid.
-pub fn neck_number(answer: NeckAnswer) -> u32
-    ensures { λ r. ⌜ r ≡ number (neckAnswer answer) ⌝ }
-{
-    match answer {
-        NeckAnswer::Accepted => 0,
-        NeckAnswer::Refused(refusal) => refusal,
-    }
-}
 
 // `voice::lay_neck`: the refusal, 0 where the neck is laid.
 #[no_mangle]

@@ -1,57 +1,16 @@
-// A booked step, for C, and the row of its answer.
-ghost use mathlib.Core.List.{List};
+// A booked step, for C.
 ghost use mathlib.Core.Path.{_≡_};
-ghost use lib.IntN.{ℤ};
-ghost use Rattle.model.specs.Answers.{bookedResult};
 ghost use Rattle.model.specs.Book.{columns};
 ghost use Rattle.model.specs.Booking.{bookedStep};
 ghost use Rattle.capi.specs.Calls.{bookedCall};
-ghost use Rattle.capi.specs.Rows.{setupOf, bookedView, bookedRow};
-use crate::setup_row::SetupRow;
-use crate::setup_row::setup_of;
+ghost use Rattle.rows.specs.Rows.{setupOf, bookedView};
 use model::Book;
-use model::BookedAnswer;
 use model::Finger;
-use model::Frame;
-use samples::frame::frame;
+use rows::booked_row::BookedRow;
+use rows::booked_row::booked_row;
+use rows::setup_row::SetupRow;
+use rows::setup_row::setup_of;
 use voice::step_booked;
-
-// The refusal, turn, finger, frame and book.
-#[repr(C)]
-pub struct BookedRow {
-    pub refusal: u32,
-    pub turn: u32,
-    pub finger: Finger,
-    pub frame: Frame,
-    pub book: Book,
-}
-
-// The row of an answer, where turn, finger and book are those that were passed in: a refused step answers them, whatever the buffers hold.
-pub fn booked_row(answer: BookedAnswer, turn: u32, finger: Finger, book: Book) -> BookedRow
-    ensures { λ r. ⌜ ((first second contact : List ℤ) → bookedView r ≡ bookedRow (bookedResult turn finger book answer first second contact)) ⌝ }
-{
-    match answer {
-        BookedAnswer::Accepted(booked) => {
-            let moved = booked.finger;
-            let made = booked.frame;
-            let next = booked.book;
-            BookedRow {
-                refusal: 0,
-                turn: booked.turn,
-                finger: moved,
-                frame: made,
-                book: next,
-            }
-        }
-        BookedAnswer::Refused(refusal) => BookedRow {
-            refusal,
-            turn,
-            finger,
-            frame: frame(0, 0),
-            book,
-        },
-    }
-}
 
 // `voice::step_booked`.
 #[no_mangle]
