@@ -5,7 +5,7 @@ ghost use Rattle.laws.specs.Playing.{forces_at, with_frame};
 use model::Frame;
 
 // The forces of one step.
-#[derive(Drop)]
+#[derive(Clone, Copy)]
 pub struct StepForces {
     pub pluck: i32,
     pub finger: i32,

@@ -1,5 +1,7 @@
 // 01, 'Playing a block': a block, whose arguments are all examined, in the order of its table of refusals. `play` makes the steps of what has passed it, and
 // `frames` says where a step's forces and its frame stand.
+#![tactic(auto)]
+
 pub mod frames;
 pub mod play;
 

@@ -9,7 +9,7 @@ use model::{Book, Wide};
 use wide::sums::{added, minus, plus};
 
 // What a step brings: the stored energy before and after it, its work and its loss.
-#[derive(Drop)]
+#[derive(Clone, Copy)]
 pub struct Change {
     pub before: Wide,
     pub after: Wide,

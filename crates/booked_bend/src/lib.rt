@@ -1,5 +1,7 @@
 // 02, item 6: a booked bend: 1 to 5 for the setup with the new tension, 6 and 11 for the state, 17 for the book. `state` bends in a state; the turn puts the two strings in
 // order.
+#![tactic(auto)]
+
 pub mod state;
 
 ghost use Rattle.std.specs.Prelude.{◌≡◌};

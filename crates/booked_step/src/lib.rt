@@ -1,5 +1,7 @@
 // 02, item 6: a booked step, a step and its booking in one, whose arguments are all examined, in the order of its table of refusals. `turn` puts the two strings in
 // order, `advance` makes the step and books it, `booking` enters it by the states before and after, `keeping` keeps the string that a step overwrites.
+#![tactic(auto)]
+
 pub mod advance;
 pub mod booking;
 pub mod keeping;

@@ -1,5 +1,7 @@
 // Answers the calls on standard input, one to a line, and prints what each answers and what the lent buffers hold after it.
 // A call is an operation's name, then each argument under its label, as whole numbers, a book by its words; a line that starts with '#' is printed as it is.
+#![tactic(auto)]
+
 ghost use Rattle.std.specs.Prelude.{◌≡◌, length};
 
 mod arguments;

@@ -12,7 +12,7 @@ use crate::gradient::gradient;
 use model::{Finger, Setup};
 
 // A contact: its gradient, and what is kept of its variable.
-#[derive(Drop)]
+#[derive(Clone, Copy)]
 pub struct Contact {
     pub gradient: i64,
     pub variable: i32,

@@ -54,7 +54,7 @@ pub all-zero : (ψ : List ℤ) {t : Bool} → t ≡ all (λ x. inside (pos 0) x 
 all-zero ψ e q = bounded 0 ψ (rw (sym e ∙ q) tt)
 
 pub zero-sum : (ψ : List ℤ) → length ψ ≤ 127 → Bounded ψ 0 → dot ψ ψ ≡ pos 0
-zero-sum ψ l z = none (dot ψ ψ) (dot-within {a = ψ} {b = ψ} l z z)
+zero-sum ψ l z = none (dot ψ ψ) (dot-within ψ ψ l z z)
   where
     none : (x : ℤ) → x within 0 → x ≡ pos 0
     none (pos n) h = let e : n ≡ 0 = (let l = h.size in omega arith) in ap pos e

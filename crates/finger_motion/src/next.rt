@@ -24,7 +24,7 @@ pub fn next_finger_contact(contact: i32, gradient: i64, delta: i64, finger_delta
 }
 
 // The finger's new height and contact variable, before they are judged.
-#[derive(Drop)]
+#[derive(Clone, Copy)]
 pub struct NewFinger {
     pub height: i64,
     pub contact: i64,

@@ -8,7 +8,7 @@ use motion::equation::{point_factor, point_side};
 use motion::pulling::gradient_left;
 
 // What a working comes to: the gradients of the point and of the finger after the drop, and the two moves.
-#[derive(Drop)]
+#[derive(Clone, Copy)]
 pub struct WorkedPair {
     pub own: i64,
     pub gradient: i64,

@@ -22,7 +22,7 @@ use motion::equation::free_side;
 use motion::points::force_at;
 
 // The move of the point at p and its new contact variable, and the finger's new height and contact variable, before they are judged.
-#[derive(Drop)]
+#[derive(Clone, Copy)]
 pub struct FingerPoint {
     pub delta: i32,
     pub contact: i32,

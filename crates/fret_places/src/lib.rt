@@ -1,5 +1,7 @@
 // 02, item 7: fret places from the semitone rule. `powers` works out the numbers that are compared, `distance` finds a fret's distance from the bridge, `list` judges
 // and writes the places of a list of frets.
+#![tactic(auto)]
+
 pub mod distance;
 pub mod list;
 pub mod powers;

@@ -2,7 +2,7 @@
 -- `HasValue x s a c` says that x is finite, has the sign s and is a / c in size.
 use Rattle.std.specs.Prelude.{◌≡◌, refl, Bool, true, false, cond, ℕ, suc, ◌+◌, ◌-◌, ◌*◌, ◌/◌, ◌^◌, ◌≤◌, ◌<◌, T, ℤ, pos, negsuc, nat_abs, Float}
 use Rattle.std.proofs.Common.{sym, ap, ap₂, ◌∙◌, le_refl, le_antisymm, le_of_lt, lt_of_lt_of_le, mul_assoc, mul_comm, mul_right_comm, one-mul, mul-pos, arith, lit<, lit≤, le→leb, lt→ltb, pow_pos, pow_mono, pow-add, shl_lt}
-use Rattle.std.specs.Float.{fin, Format, binary32, binary64}
+use Rattle.std.specs.Float.{fin, inf, nan, Format, binary32, binary64}
 use Rattle.std.specs.Float.Ieee.{prec, low, hid, top, size, up, down, unlike, round, div, of_int, in_float, fits, to_bits, of_bits}
 use Rattle.std.specs.Float.Ieee.Digits.{back}
 use Rattle.std.specs.Float.Ieee.Fits.{reach, down_pos, round-fits}
@@ -41,6 +41,8 @@ divided f (fin t m e) s n k v =
   where
     regroup : (n d p : ℕ) → n * d * p ≡ n * (1 * p * d)
     regroup n d p = rw one-mul (mul_assoc n d p ∙ ap (λ x. n * x) (mul_comm d p))
+divided f nan s n k v = elim v [ ]
+divided f (inf t) s n k v = elim v [ ]
 
 pub divide-power : (f : Format) (z : ℤ) (k : ℕ) → nat_abs z ≤ 2 ^ prec f → div f (of_int f z) (fin false 1 (pos k)) ≡ round f (negative z) (nat_abs z) (2 ^ k)
 unfolding of_int
@@ -63,6 +65,10 @@ by_value f (fin t m e) (fin v n g) s a c k h j =
   where
     cross : (x y p q : ℕ) → x * c ≡ a * p → y * c ≡ a * q → x * q ≡ y * p
     cross x y p q d e = le_antisymm (transfer x y p q a a c c k k d e (le_refl (a * c))) (transfer y x q p a a c c k k e d (le_refl (a * c)))
+by_value f nan y s a c k h j = elim h [ ]
+by_value f (inf t) y s a c k h j = elim h [ ]
+by_value f (fin t m e) nan s a c k h j = elim j [ ]
+by_value f (fin t m e) (inf v) s a c k h j = elim j [ ]
 
 pub unique : (f : Format) (x y : Float) (s : Bool) (a c : ℕ) → 0 < c → T (fits f x) → T (fits f y) → HasValue x s a c → HasValue y s a c → x ≡ y
 unique f x y s a c k p q h j = sym (of_bits-to_bits f x p) ∙ ap (of_bits f) (by_value f x y s a c k h j) ∙ of_bits-to_bits f y q

@@ -37,13 +37,13 @@ pub record Held (s : Setup) (x : State) : Type 0 where
 -- ---- sums over the points of two strings
 
 -- Σ a·b over the points, at most 127, and Σ of products of rises over the segments, at most 128
-pub dot-within : {a b : List ℤ} {k n : ℕ} → length a ≤ 127 → Bounded a k → Bounded b n → dot a b within 127 * (k * n)
+pub dot-within : (a b : List ℤ) {k n : ℕ} → length a ≤ 127 → Bounded a k → Bounded b n → dot a b within 127 * (k * n)
 unfolding dot
-dot-within {a} {k} {n} l ha hb = weaken (sum-within (length a) (λ i _. ha (suc i) ⟨*⟩ hb (suc i))) (mul-le-mul l (le_refl (k * n)))
+dot-within a b {k} {n} l ha hb = weaken (sum-within (length a) (λ i _. ha (suc i) ⟨*⟩ hb (suc i))) (mul-le-mul l (le_refl (k * n)))
 
-E-within : {a b : List ℤ} {k n : ℕ} → length a ≤ 127 → Bounded a k → Bounded b n → E a b within 128 * ((k + k) * (n + n))
+E-within : (a b : List ℤ) {k n : ℕ} → length a ≤ 127 → Bounded a k → Bounded b n → E a b within 128 * ((k + k) * (n + n))
 unfolding E
-E-within {a} {k} {n} l ha hb = weaken (sum-within (suc (length a)) (λ i _. (ha (suc i) ⟨-⟩ ha i) ⟨*⟩ (hb (suc i) ⟨-⟩ hb i))) (mul-le-mul (omega arith) (le_refl ((k + k) * (n + n))))
+E-within a b {k} {n} l ha hb = weaken (sum-within (suc (length a)) (λ i _. (ha (suc i) ⟨-⟩ ha i) ⟨*⟩ (hb (suc i) ⟨-⟩ hb i))) (mul-le-mul (omega arith) (le_refl ((k + k) * (n + n))))
 
 module _ {u v : List ℤ} (h : Strings u v) where
   pub newer-within : Bounded u 1048576
@@ -67,20 +67,20 @@ module _ {u v : List ℤ} (h : Strings u v) where
   few ha = let e = ha.long in let l = h.most in omega arith
 
   pub changes-size : let a = minus u v in dot a a within 127 * 2 ^ 42
-  changes-size = dot-within {a = minus u v} {b = minus u v} (few (spans-minus spans-newer spans-older)) change-within change-within
+  changes-size = dot-within (minus u v) (minus u v) (few (spans-minus spans-newer spans-older)) change-within change-within
 
   pub rises-size : E u v within 2 ^ 49
-  rises-size = E-within {a = u} {b = v} h.most newer-within older-within
+  rises-size = E-within u v h.most newer-within older-within
 
   pub bends-size : dot (D1 u) (D1 v) within 127 * 2 ^ 44
-  bends-size = dot-within {a = D1 u} {b = D1 v} (few (spans-D1 spans-newer)) (D1-bounded u newer-within) (D1-bounded v older-within)
+  bends-size = dot-within (D1 u) (D1 v) (few (spans-D1 spans-newer)) (D1-bounded u newer-within) (D1-bounded v older-within)
 
   pub change-rises-size : let a = minus u v in E a a within 2 ^ 51
-  change-rises-size = E-within {a = minus u v} {b = minus u v} (few (spans-minus spans-newer spans-older)) change-within change-within
+  change-rises-size = E-within (minus u v) (minus u v) (few (spans-minus spans-newer spans-older)) change-within change-within
 
 pub contacts-size : (ψ : List ℤ) → length ψ ≤ 127 → T (all contact_ok ψ) → dot ψ ψ within 127 * 2 ^ 52
 unfolding contact_ok
-contacts-size ψ l h = dot-within {a = ψ} {b = ψ} l (bounded 67108864 ψ h) (bounded 67108864 ψ h)
+contacts-size ψ l h = dot-within ψ ψ l (bounded 67108864 ψ h) (bounded 67108864 ψ h)
 
 -- ---- a state
 
@@ -144,7 +144,7 @@ released-size {s} {neck} {x} q h =
     let d = depths s neck x in
     let ψ : Bounded (cleared s neck x).points 67108864 = λ i. rw (at-let_go q i) (let_go-within (at d.points i) (at x.contact i) (bounded 67108864 x.contact h.range.contact i)) in
     let φ = let_go-within d.finger x.finger.contact (finger-within h) in
-    wide (num 2 ⟨*⟩ (dot-within {a = (cleared s neck x).points} {b = (cleared s neck x).points} (few-points h (cleared s neck x).points (spans-cleared q).long) ψ ψ ⟨+⟩ φ ⟨*⟩ φ)) tt
+    wide (num 2 ⟨*⟩ (dot-within ((cleared s neck x).points) ((cleared s neck x).points) (few-points h (cleared s neck x).points (spans-cleared q).long) ψ ψ ⟨+⟩ φ ⟨*⟩ φ)) tt
 
 -- the work of forces, where the pluck place and the finger move by these
 pub work-within : {f g δ δw : ℤ} → f within 1073741824 → g within 1073741824 → δ within 2097152 → δw within 2097152 → (pos 2 *ℤ f *ℤ δ +ℤ pos 2 *ℤ g *ℤ δw) within 2 ^ 53

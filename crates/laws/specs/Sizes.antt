@@ -47,8 +47,8 @@ module _ {s : Setup} (ok : SetupFacts s) where
   pub factor-size : {G : ℤ} → G within 255 → factor s G within 73217
   factor-size g = num 4096 ⟨+⟩ natural ok.plain ⟨+⟩ g ⟨*⟩ g
 
-  pub free-size : {u v : List ℤ} → length u ≡ length v → Bounded u 1048576 → Bounded v 1048576 → {f : ℤ} → f within 1073741824 → (i : ℕ) → right_side s u v (pos 0) (pos 0) f i within free_size
-  free-size {u} {v} e hu hv f i =
+  pub free-size : (u v : List ℤ) → length u ≡ length v → Bounded u 1048576 → Bounded v 1048576 → {f : ℤ} → f within 1073741824 → (i : ℕ) → right_side s u v (pos 0) (pos 0) f i within free_size
+  free-size u v e hu hv f i =
       wide (num 8192 ⟨*⟩ a i ⟨+⟩ natural ok.tension ⟨*⟩ D1-bounded u hu i ⟨-⟩ natural ok.stiffness ⟨*⟩ D1-bounded (D1 u) (D1-bounded u hu) i
       ⟨+⟩ natural ok.viscous ⟨*⟩ D1-bounded (minus u v) a i ⟨+⟩ num 2 ⟨*⟩ num 0 ⟨*⟩ num 0 ⟨+⟩ f) tt
     where

@@ -1,1 +1,2 @@
 // Proofs of the promises; no code. They are gathered in specs/Demands.antt.
+#![tactic(auto)]

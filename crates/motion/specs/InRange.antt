@@ -67,7 +67,7 @@ module _ {s : Setup} {u v : List ℤ} (h : StringRanges s u v) where
   -- c without the contact, where the pluck force f is in range
   pub side-within : (f : ℤ) → T (force_ok f) → (ψ G : List ℤ) (i : ℕ) → free_side s u v ψ G f i within free_size
   unfolding displacement_ok force_ok
-  side-within f k ψ G i = free-size facts (h.newer-length ∙ sym h.older-length) (bounded 1048576 u h.newer) (bounded 1048576 v h.older) (only (eqb i (e s)) (inside-within 1073741824 f k)) i
+  side-within f k ψ G i = free-size facts u v (h.newer-length ∙ sym h.older-length) (bounded 1048576 u h.newer) (bounded 1048576 v h.older) (only (eqb i (e s)) (inside-within 1073741824 f k)) i
 
 -- the points over the neck
 module _ {s : Setup} {h u v ψ G : List ℤ} {f : ℤ} (r : PointRanges s h u v ψ G f) where

@@ -10,7 +10,7 @@ use crate::equation::point_move;
 use model::Setup;
 
 // A move, and the contact variable after it. Before 14 is judged it may be out of 01's range, but 32 bits hold it.
-#[derive(Drop)]
+#[derive(Clone, Copy)]
 pub struct Settled {
     pub delta: i32,
     pub contact: i32,

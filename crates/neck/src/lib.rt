@@ -1,5 +1,7 @@
 // 01, 'Laying the neck': the height and the stiffness of each point, from the board and the frets. `frets` examines the frets and
 // their tip, `laying` writes the neck.
+#![tactic(auto)]
+
 pub mod frets;
 pub mod laying;
 

@@ -1,4 +1,6 @@
 // Text, numbers and lists of numbers on standard output.
+#![tactic(auto)]
+
 ghost use Rattle.std.specs.Prelude.{◌≡◌, nat_abs};
 
 pub fn text(bytes: &[u8]) {

@@ -1,5 +1,7 @@
 // 01, 'Playing a block, reading a place': the newest displacement at a place and, where the string is pressed there, its depth. `newest`
 // hands back the newest string, and `shown` says how a point lies over the neck.
+#![tactic(auto)]
+
 pub mod newest;
 pub mod shown;
 

@@ -8,7 +8,7 @@ use model::{BentAnswer, Book};
 
 // The refusal, 0 where there is none, the new setup and the book; after a refusal the setup and the book that were passed in.
 #[repr(C)]
-#[derive(Drop)]
+#[derive(Clone, Copy)]
 pub struct BentRow {
     pub refusal: u32,
     pub setup: SetupRow,

@@ -8,7 +8,7 @@ use samples::frame::frame;
 
 // The refusal, turn, finger, frame and book.
 #[repr(C)]
-#[derive(Drop)]
+#[derive(Clone, Copy)]
 pub struct BookedRow {
     pub refusal: u32,
     pub turn: u32,

@@ -8,7 +8,7 @@ use model::SetupAnswer;
 
 // The refusal, 0 where there is none, and the new setup; after a refusal the setup that was passed in.
 #[repr(C)]
-#[derive(Drop)]
+#[derive(Clone, Copy)]
 pub struct ChangedRow {
     pub refusal: u32,
     pub setup: SetupRow,

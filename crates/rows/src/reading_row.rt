@@ -7,7 +7,7 @@ use samples::fractions::double;
 
 // The refusal; 1 where the string is pressed and 0 where it is free; the displacement, and the depth where it is pressed.
 #[repr(C)]
-#[derive(Drop)]
+#[derive(Clone, Copy)]
 pub struct ReadingRow {
     pub refusal: u32,
     pub pressed: u32,

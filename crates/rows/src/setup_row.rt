@@ -6,7 +6,7 @@ use model::{FingerSetup, Setup};
 
 // 01, 'Setup', in one row.
 #[repr(C)]
-#[derive(Drop)]
+#[derive(Clone, Copy)]
 pub struct SetupRow {
     pub segments: u32,
     pub tension: u32,

@@ -8,7 +8,7 @@ use model::{Book, Finger, StartAnswer, Wide};
 
 // The refusal, and turn, finger and book.
 #[repr(C)]
-#[derive(Drop)]
+#[derive(Clone, Copy)]
 pub struct StartRow {
     pub refusal: u32,
     pub turn: u32,

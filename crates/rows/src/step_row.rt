@@ -8,7 +8,7 @@ use samples::frame::frame;
 
 // The refusal, turn, finger and frame.
 #[repr(C)]
-#[derive(Drop)]
+#[derive(Clone, Copy)]
 pub struct StepRow {
     pub refusal: u32,
     pub turn: u32,

@@ -2,13 +2,13 @@
 ghost use Rattle.std.specs.Prelude.{◌<◌, ◌≤◌};
 
 // A number that was drawn, and what the generator holds then.
-#[derive(Drop)]
+#[derive(Clone, Copy)]
 pub struct Drawn {
     pub number: u32,
     pub next: u32,
 }
 
-#[derive(Drop)]
+#[derive(Clone, Copy)]
 pub struct DrawnSigned {
     pub number: i32,
     pub next: u32,

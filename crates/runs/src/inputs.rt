@@ -16,7 +16,7 @@ fn place(x: u32, segments: u32) -> Drawn
     }
 }
 
-#[derive(Drop)]
+#[derive(Clone, Copy)]
 pub struct DrawnSetup {
     pub setup: Setup,
     pub next: u32,
@@ -34,7 +34,7 @@ fn coefficient(x: u32, limit: u32, unit: u32) -> Drawn
     }
 }
 
-#[derive(Drop)]
+#[derive(Clone, Copy)]
 struct DrawnCoefficients {
     tension: u32,
     stiffness: u32,
@@ -96,7 +96,7 @@ pub fn setup(x: u32, segments: u32) -> DrawnSetup
     }
 }
 
-#[derive(Drop)]
+#[derive(Clone, Copy)]
 pub struct DrawnBoard {
     pub heights: [i32; 127],
     pub next: u32,
@@ -132,7 +132,7 @@ fn add_if(wanted: bool, places: &mut [u32], count: usize, place: u32) -> usize
     count
 }
 
-#[derive(Drop)]
+#[derive(Clone, Copy)]
 pub struct DrawnFrets {
     pub count: usize,
     pub next: u32,
@@ -154,7 +154,7 @@ pub fn frets(x: u32, segments: u32, places: &mut [u32]) -> DrawnFrets
 }
 
 // How large forces are at most, and what they are multiples of.
-#[derive(Drop)]
+#[derive(Clone, Copy)]
 struct Limits {
     limit: u32,
     unit: u32,

@@ -1,5 +1,7 @@
 // Long runs on drawn setups, necks, fingers and forces, with bends and slides. After each stretch of 256 frames, played in blocks and single steps in turn, or
 // in booked steps, a line says what it came to. The file stdout is written by another implementation from the same seeds.
+#![tactic(auto)]
+
 ghost use Rattle.std.specs.Prelude.{◌<◌, ◌≤◌};
 
 mod changes;

@@ -8,7 +8,7 @@ use voice::{
     StepAnswer, Wide,
 };
 
-#[derive(Drop)]
+#[derive(Clone, Copy)]
 pub struct State {
     pub drawn: u32, // by the generator
     pub setup: Setup, // the newest

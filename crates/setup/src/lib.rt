@@ -1,4 +1,6 @@
 // 01, 'Setup': the eleven numbers of a setup are examined, 1 to 5. One function for each row of the table. A bend and a slide are examined in the same way.
+#![tactic(auto)]
+
 pub mod bend;
 pub mod coefficients;
 pub mod places;

@@ -1,5 +1,7 @@
 // 01, 'One step': the fresh start, with both strings and all contact variables zero, turn 0 and the finger at its two heights; and 02, item 6: its book.
 // `finger` examines the heights, `clearing` clears a buffer.
+#![tactic(auto)]
+
 pub mod clearing;
 pub mod finger;
 

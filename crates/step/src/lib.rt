@@ -1,5 +1,7 @@
 // 01, 'One step': a step, whose arguments are all examined, in the order of its table of refusals. `turn` puts the two strings in order, and `advance` makes the
 // step: 12, `work_out`, and the `outcome` with 13 and 14.
+#![tactic(auto)]
+
 pub mod advance;
 pub mod outcome;
 pub mod turn;

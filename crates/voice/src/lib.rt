@@ -1,4 +1,5 @@
 // The string voice: what a caller may do, and the types of arguments and answers. Each operation stands in a crate of its own, with its contract.
+#![tactic(auto)]
 
 // 01, 'Setup': examines a setup.
 pub use setup::check_setup;

@@ -43,7 +43,7 @@ module _ (k : tie.Start) where
   points-within =
       let h = k.pre.1 in
       let l : length cleared ≤ 127 = (let e = (spans-cleared h).long in let m = h.most in omega arith) in
-      dot-within {a = cleared} {b = cleared} l (cleared-within h) (cleared-within h)
+      dot-within cleared cleared l (cleared-within h) (cleared-within h)
 
   finger-within : φ within 67108864
   finger-within = let_go-within (at k.args.newer.now (p s) -ℤ k.args.finger.newer) k.args.finger.contact k.pre.3
