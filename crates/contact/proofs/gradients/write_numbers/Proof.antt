@@ -18,22 +18,22 @@ use Rattle.contact.specs.Pressed.{Listed, number_at}
 use Rattle.contact.proofs.gradients.write_numbers.Statement.{statement}
 use Rattle.contact.proofs.gradients.write_numbers.Tie as tie
 
-abbrev invariant-loop : tie.invariant-loop
-invariant-loop heights stiffness newer list count numbers₀ j₀ numbers j = (j ≤ count) × Begun 0 128 (λ m. number_at stiffness heights newer (get_or list m 0)) j numbers
+abbrev invariant-loop-j : tie.invariant-loop-j
+invariant-loop-j heights stiffness newer list count numbers₀ j₀ numbers j = (j ≤ count) × Begun 0 128 (λ m. number_at stiffness heights newer (get_or list m 0)) j numbers
 
-abbrev decreases-loop : tie.decreases-loop
-decreases-loop heights stiffness newer list count numbers₀ j₀ numbers j = count - j
+abbrev decreases-loop-j : tie.decreases-loop-j
+decreases-loop-j heights stiffness newer list count numbers₀ j₀ numbers j = count - j
 
 abbrev depth : Code
 depth = var 0 ⊟ var 1
 
 -- a turn: the listed point, and the neck and the string there
-module _ (c : tie.In-loop invariant-loop decreases-loop) where
-  abbrev start : tie.Start invariant-loop decreases-loop
+module _ (c : tie.In-loop-j invariant-loop-j decreases-loop-j) where
+  abbrev start : tie.Start invariant-loop-j decreases-loop-j
   start = c.before.before.before
 
   abbrev j : ℕ
-  j = c.before.loop.j
+  j = c.loop-j.j
 
   abbrev heights : List ℤ
   heights = start.args.heights.now
@@ -42,19 +42,19 @@ module _ (c : tie.In-loop invariant-loop decreases-loop) where
   newer = start.args.newer.now
 
   listed : Listed heights newer (length newer) start.args.list.now start.args.count
-  listed = start.pre.1
+  listed = start.requires.1
 
   in_list : j < 127
-  in_list = let l = c.loop-test.true in let f = listed.few in let m = start.pre.0.most in omega arith
+  in_list = let l = c.loop-j-test.true in let f = listed.few in let m = start.requires.0.most in omega arith
 
   abbrev i : ℕ
   i = get_or start.args.list.now j 0
 
   point : i < length newer
-  point = listed.below j c.loop-test.true
+  point = listed.below j c.loop-j-test.true
 
   small : i < 127
-  small = let l = point in let m = start.pre.0.most in omega arith
+  small = let l = point in let m = start.requires.0.most in omega arith
 
   abbrev height : ℤ
   height = get_or heights i (pos 0)
@@ -64,34 +64,34 @@ module _ (c : tie.In-loop invariant-loop decreases-loop) where
 
   ρ : Within (height ∷ own ∷ []) (1048576 ∷ 1048576 ∷ [])
   unfolding displacement_ok
-  ρ = height-within height (all-entry height_ok heights (pos 0) start.pre.0.heights i (let l = point in let e = start.pre.0.heights-length in omega arith)) ▹ bounded 1048576 newer start.pre.0.string (suc i) ▹ ∅
+  ρ = height-within height (all-entry height_ok heights (pos 0) start.requires.0.heights i (let l = point in let e = start.requires.0.heights-length in omega arith)) ▹ bounded 1048576 newer start.requires.0.string (suc i) ▹ ∅
 
-root-number-requires : tie.Need-root-number-requires invariant-loop decreases-loop
-root-number-requires c κs = let t = c.before.before.before.before in subst (λ d. pos 0 <ℤ d) (sym (result (ρ t) w32 depth tt)) (depth-above ((listed t).pressed (j t) t.loop-test.true))
+root-number-requires : tie.Need-root_number-number-requires invariant-loop-j decreases-loop-j
+root-number-requires c = let t = c.before.before.before.before.before in subst (λ d. pos 0 <ℤ d) (sym (result (ρ t) w32 depth tt)) (depth-above ((listed t).pressed (j t) t.loop-j-test.true))
 
-loop-again : tie.Need-loop-preserved invariant-loop decreases-loop
+loop-again : tie.Need-loop-j-preserved invariant-loop-j decreases-loop-j
 loop-again c =
-    let t = c.before.before.before.before.before in
-    (omega (arith, t.loop-test.true), begun_more (let l = in_list t in omega arith) t.before.loop.invariant.1 (c.root-number.ensures ∙ ap (root_number (get_or (start t).args.stiffness.now (i t) 0)) (result (ρ t) w32 depth tt)))
+    let t = c.before.before.before.before.before.before.before in
+    (omega (arith, t.loop-j-test.true), begun_more (let l = in_list t in omega arith) t.loop-j.invariant.1 (c.root_number-number.ensures ∙ ap (root_number (get_or (start t).args.stiffness.now (i t) 0)) (result (ρ t) w32 depth tt)))
 
-returns : tie.Need-returns invariant-loop decreases-loop
+returns : tie.Need-returns invariant-loop-j decreases-loop-j
 returns c =
     let a = c.before.before.before in
-    let inv = c.before.loop.invariant in
-    let e : c.before.loop.j ≡ a.args.count = let l = c.loop-test.false in let b = inv.0 in omega arith in
-    subst (λ (n : ℕ). Begun 0 128 (λ m. number_at a.args.stiffness.now a.args.heights.now a.args.newer.now (get_or a.args.list.now m 0)) n c.before.loop.numbers) e inv.1
+    let inv = c.loop-j.invariant in
+    let e : c.loop-j.j ≡ a.args.count = let l = c.loop-j-test.false in let b = inv.0 in omega arith in
+    subst (λ (n : ℕ). Begun 0 128 (λ m. number_at a.args.stiffness.now a.args.heights.now a.args.newer.now (get_or a.args.list.now m 0)) n c.loop-j.numbers) e inv.1
 
-pub write-numbers-spec : {M : Type 1} → statement M
-write-numbers-spec =
+pub write_numbers_spec : {M : Type 1} → statement M
+write_numbers_spec =
     tie.close
     (tie.spec
-    invariant-loop
-    decreases-loop
-    (λ c. (omega arith, subst (Begun 0 128 _ 0) (sym c.before.requires.2) begun-none))
+    invariant-loop-j
+    decreases-loop-j
+    (λ c. (omega arith, subst (Begun 0 128 _ 0) (sym c.requires.2) begun-none))
     (λ c. let l = in_list c in omega arith)
     (λ c. record { fits = let l = small c.before in omega arith })
     (λ c. record { fits = let l = small c.before in omega arith })
-    (λ c. let l = point c.before in let e = (start c.before).pre.0.heights-length in omega arith)
+    (λ c. let l = point c.before in let e = (start c.before).requires.0.heights-length in omega arith)
     (λ c. record { fits = let l = small c.before.before in omega arith })
     (λ c. point c.before.before)
     (λ c. record { fits = let l = small c.before.before.before in omega arith })
@@ -101,6 +101,6 @@ write-numbers-spec =
     (λ c. record { fits = let l = in_list c.before.before.before.before.before in omega arith })
     (λ c. let l = in_list c.before.before.before.before.before in omega arith)
     (λ c. record { fits = let l = in_list c.before.before.before.before.before in omega arith })
-    (λ c. omega (arith, c.before.before.before.before.before.loop-test.true))
+    (λ c. omega (arith, c.loop-j-test.true))
     loop-again
     returns)

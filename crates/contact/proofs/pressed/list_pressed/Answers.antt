@@ -1,0 +1,89 @@
+-- `list_pressed` meets its contract.
+use mathlib.Core.Path.{◌≡◌, sym, subst}
+use mathlib.Core.Logic.{⊎_elim}
+use Prim.Native.Nat.{ℕ, ◌-◌, ◌≤◌, ◌<◌, ◌+◌}
+use native.Mathlib.Omega.{arith}
+use borrow.Author.Rules.{rules, sfits_of}
+use lib.IntN.{ℤ, pos}
+use lib.ListN.{length, get_or, set}
+use mir.Syntax.{w32}
+use mir.Val.{SFits}
+use Rattle.integers.specs.Tests.{below_at, below_true, below_false}
+use Rattle.contact.specs.Pressed.{Listed, listed-none, listed_more, listed_same}
+use Rattle.contact.proofs.pressed.list_pressed.Goals as goal
+use Rattle.contact.proofs.pressed.list_pressed.Goals.{In-loop-i, Joined-newer-i, Start}
+
+-- a turn: the point, and where it is written
+module _ (c : In-loop-i) where
+  abbrev i : ℕ
+  i = c.loop-i.i
+
+  abbrev count : ℕ
+  count = c.loop-i.count
+
+  listed : Listed c.args.heights.now c.args.newer.now i c.loop-i.list count
+  listed = c.loop-i.invariant.1
+
+  point : i < 127
+  point = let l = c.loop-i-test.true in let m = c.requires.1 in omega arith
+
+  in_list : count < 128
+  in_list = let f = listed.few in let l = point in omega arith
+
+-- what the test says
+module _ (c : Joined-newer-i) where
+  abbrev turn : In-loop-i
+  turn = c.before.before.before.before
+
+  abbrev start : Start
+  start = turn.before.before
+
+  abbrev own : ℤ
+  own = get_or start.args.newer.now (i turn) (pos 0)
+
+  abbrev height : ℤ
+  height = get_or start.args.heights.now (i turn) (pos 0)
+
+  own-fits : SFits w32 own
+  own-fits = sfits_of c.t13-1.given
+
+  height-fits : SFits w32 height
+  height-fits = sfits_of c.t16-1.given
+
+  abbrev Next : ℕ → Type 0
+  Next = Listed start.args.heights.now start.args.newer.now (i turn + 1) (set turn.loop-i.list (count turn) (i turn))
+
+  next : Next c.if-newer-i.count
+  next = ⊎_elim
+      (λ w. subst Next (sym w.1) (listed_more (listed turn) (let l = point turn in omega arith) (below_true own height (below_at w32 _ own height w.0.taken own-fits height-fits))))
+      (λ w. subst Next (sym w.1) (listed_same (listed turn) (let l = point turn in omega arith) (below_false own height (below_at w32 _ own height w.0.left own-fits height-fits))))
+      c.if-newer-i.branch
+
+pub returns : goal.returns
+returns c =
+    let a = c.before.before in
+    let inv = c.loop-i.invariant in
+    let l = c.loop-i-test.false in
+    let e : c.loop-i.i ≡ length a.args.newer.now = let b = inv.0 in omega arith in
+    subst (λ (n : ℕ). Listed a.args.heights.now a.args.newer.now n c.loop-i.list c.loop-i.count) e inv.1
+
+pub loop-i-init : goal.loop-i-init
+loop-i-init c = (omega arith, listed-none c.requires.2)
+
+pub overflow_cast-list : goal.overflow_cast-list
+overflow_cast-list c = record { fits = let l = point c in omega arith }
+
+pub bounds-list-count : goal.bounds-list-count
+bounds-list-count c = in_list c.before
+
+pub bounds-newer-i : goal.bounds-newer-i
+bounds-newer-i c = c.loop-i-test.true
+
+pub bounds-heights-i : goal.bounds-heights-i
+bounds-heights-i c = let e = c.requires.0 in omega (arith, c.loop-i-test.true)
+
+pub overflow_add-count : goal.overflow_add-count
+overflow_add-count c = record { fits = let l = in_list c.before.before.before.before in omega arith }
+
+pub loop-i-preserved : goal.loop-i-preserved
+loop-i-preserved c = (omega (arith, (turn c).loop-i-test.true), next c)

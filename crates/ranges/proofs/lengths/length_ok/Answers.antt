@@ -1,0 +1,9 @@
+-- `length_ok` meets its contract.
+use mathlib.Core.Path.{refl}
+use borrow.Author.Rules.{rules}
+use Rattle.model.specs.Setup.{length_ok}
+use Rattle.ranges.proofs.lengths.length_ok.Goals as goal
+
+pub returns : goal.returns
+unfolding length_ok
+returns c = refl
