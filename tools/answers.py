@@ -14,7 +14,7 @@ import re
 import sys
 
 IDENT = r"[^\s(){}.;,@\"«»:`\[\]]+"
-PLAIN = {"search rules", "tt", "search needs"}
+PLAIN = {"search rules", "tt", "search needs", "lit< tt"}
 
 
 def norm(name):
@@ -126,7 +126,9 @@ class Turned:
             return head + "." + self.fields.get(norm(name), name)
 
         text = re.sub(rf"\.({IDENT})\.(?:new|last)((?:\.1)*)\.0(?![\w-])", self.written, text)
-        text = re.sub(rf"((?:(?<![\w.'-])[a-z]'?|\)|\.before))\.(?!before\b)({IDENT})", field, text)
+        stepped = set(re.findall(r"abbrev (\S+) : (?:goal\.|tie\.|lts\.)?(?:Start|In-|After-|At-|Then-|Else-|Joined-)", text)) | set(re.findall(r"let (\S+) = [^\s.]+(?:\.before)+ in", text))
+        steps = "|".join(["[a-z]'?"] + [re.escape(it) for it in sorted(stepped)])
+        text = re.sub(rf"((?:(?<![\w.'-])(?:{steps})|\)|\.before))\.(?!before\b)({IDENT})", field, text)
         text = re.sub(r"(?<=\.before)\.fits\.", ".ranges.", text)
         text = re.sub(r"(?<![\w.'-])([a-z])\.fits\.", r"\1.ranges.", text)
         for old, new in ((r"\.pre(?![\w-])", ".requires"), (r"\.good(?![\w-])", ".well_formed"), (r"\.type-inv(?![\w-])", ".type_inv")):
@@ -214,6 +216,39 @@ class Turned:
             return f"pub {name} : goal.{name}\n{name} c = {inner} c"
         return f"pub {name} : goal.{name}\n{name} c = ({inner}) c"
 
+    def arguments_back(self, text):
+        """The steps that the answers among tie.spec's arguments pass on."""
+        needs = [new for _, new in self.names["needs"]]
+        at = text.index("tie.spec") + len("tie.spec")
+        depth, begin, spans = 0, None, []
+        for i in range(at, len(text) + 1):
+            ch = text[i] if i < len(text) else ")"
+            depth += ch in "({["
+            if depth == 0 and not ch.isspace() and ch not in ")]}" and begin is None:
+                begin = i
+            if ch in "({[" and depth == 1 and begin is None:
+                begin = i
+            depth -= ch in ")}]"
+            if begin is not None and (depth < 0 or depth == 0 and (ch.isspace())):
+                spans.append((begin, i))
+                begin = None
+            elif begin is not None and depth == 0 and ch in ")]}":
+                spans.append((begin, i + 1))
+                begin = None
+            if depth < 0:
+                break
+        spans = [s for s in spans if not re.match(r"(invariant|decreases)-", text[s[0] : s[1]])]
+        if len(spans) != len(needs):
+            self.left.append(f"{len(spans)} answers for {len(needs)} goals: {' '.join(needs)}")
+            return text
+        for (a, b), need in reversed(list(zip(spans, needs))):
+            arg, place = text[a:b], self.asked.get(need)
+            m = re.match(r"\(λ ([\w']+)", arg)
+            if m and place in self.parents:
+                arg = re.sub(rf"(?<![\w.'-]){m[1]}((?:\.before)*)(?![\w.'-])(?! κs\.)", lambda m: m[0] + ".before" * (self.chain(place, m[1].count(".before")) - m[1].count(".before")), arg[m.end():])
+                text = text[:a] + m[0] + arg + text[b:]
+        return text
+
     def walk(self, text):
         """The proof as a Proof.antt, under today's names, where its lemmas take steps as the code has them."""
         self.used, self.seen = set(), set()
@@ -226,8 +261,6 @@ class Turned:
         for (old, new), _ in self.names["loops"]:
             text = re.sub(rf"(?<![\w'-])(invariant|decreases)-{re.escape(old)}(?![\w'-])", rf"\1-{new}", text)
         text = re.sub(r"([\w-]+)-spec(?= [:=]|$)", lambda m: norm_spec(m[1]), text, flags=re.M)
-        text = re.sub(r"(?m)^([\w'-]+ [\w']+) κs(?= =)", r"\1", text)
-        text = re.sub(r"λ ([\w']+) κs\.", r"λ \1.", text)
         head = {}
         out = []
         place = None
@@ -249,8 +282,9 @@ class Turned:
                 if at in self.parents:
                     line = re.sub(rf"(?<![\w.'-]){var}((?:\.before)*)(?![\w.'-])(?! :)(?! =)", lambda m: var + ".before" * self.chain(at, m[1].count(".before")), line)
             out.append(line)
+        text = self.arguments_back("\n".join(out))
         with open(self.path, "w", encoding="utf-8") as f:
-            f.write("\n".join(out))
+            f.write(text)
         self.left.append("stays a Proof.antt")
         return self.left
 

@@ -38,7 +38,7 @@ returns c =
     (none-put k.stiffness.now k.heights.now k.newer.now a.requires.0.heights-length a.requires.0.stiffness-length (subst T (sym c.if-none_pressed.true ∙ c.none_pressed.ensures) tt))
 
 write-roots-requires : tie.Need-write_roots-requires invariant-loop-j decreases-loop-j
-write-roots-requires c =
+write-roots-requires c κs =
     let numbers = c.write_numbers.ensures in
     let listed = c.list_pressed-count.ensures in
     let few = c.requires.0.most in
@@ -75,7 +75,7 @@ module _ (c : tie.In-loop-j invariant-loop-j decreases-loop-j) where
   point : get_or (list made) j 0 < 127
   point = let l = (listed made).below j c.loop-j-test.true in let m = (start made).requires.0.most in omega arith
 
-  small : get_or made.write-roots.new.numbers j 0 ≤ 255
+  small : get_or made.write_roots.new.numbers j 0 ≤ 255
   small = subst (λ (x : ℕ). x ≤ 255) (sym (root_is made j c.loop-j-test.true)) (gradient-size _ _).size
 
 loop-again : tie.Need-loop-j-preserved invariant-loop-j decreases-loop-j
@@ -99,10 +99,10 @@ point_gradients_spec =
     (tie.spec
     invariant-loop-j
     decreases-loop-j
-    (λ c. c.requires.0.heights-length)
+    (λ c κs. c.requires.0.heights-length)
     returns
-    (λ c. let a = c.before.before.before.before in (a.requires.0.heights-length, a.requires.0.most, refl))
-    (λ c. let a = c.before.before.before.before.before.before.before in (a.requires.0, c.list_pressed-count.ensures, refl))
+    (λ c κs. let a = c.before.before.before.before in (a.requires.0.heights-length, a.requires.0.most, refl))
+    (λ c κs. let a = c.before.before.before.before.before.before.before in (a.requires.0, c.list_pressed-count.ensures, refl))
     write-roots-requires
     (λ c. let k = (start c).args in (zero-le, subst (PutIn k.stiffness.now k.heights.now k.newer.now (list c) 0) (sym (start c).requires.1) (put-none k.stiffness.now k.heights.now k.newer.now)))
     (λ c. let l = in_list c in omega arith)
@@ -111,7 +111,7 @@ point_gradients_spec =
     (λ c. let l = in_list c in omega arith)
     (λ c. record { fits = let l = small c in omega arith })
     point
-    (λ c. record { fits = let l = in_list c in omega arith })
+    (λ c. record { fits = let l = in_list c.before in omega arith })
     (λ c. omega (arith, c.loop-j-test.true))
     loop-again
     returns-2)
