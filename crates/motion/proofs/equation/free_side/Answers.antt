@@ -11,7 +11,7 @@ use mir.Facts.{to_z-of_z}
 use Rattle.integers.specs.Filled.{length-tabulate, get_d_tabulate}
 use Rattle.integers.specs.Solve.{◌⊕◌, ◌⊖◌, ◌⊗◌, #◌, ◌≐◌, solve}
 use Rattle.integers.specs.Size.{◌within◌, ◌⟨-⟩◌, num, wide}
-use Rattle.integers.specs.Machine.{Code, var, ♯◌, ◌⊞◌, ◌⊠◌, cast, Within, ∅, ◌▹◌, result, answer}
+use Rattle.integers.specs.Machine.{Code, var, ♯◌, ◌⊞◌, ◌⊠◌, cast, Within, ∅, ◌▹◌, result, fits}
 use Rattle.model.specs.Ranges.{force_ok}
 use Rattle.model.specs.Setup.{L, M, S}
 use Rattle.model.specs.Differences.{at, minus, D1, D2}
@@ -22,10 +22,10 @@ use Rattle.laws.specs.Strings.{at-minus}
 use Rattle.motion.specs.Weighted.{weighted, placed, StringRanges, weighted_size, side_sizes}
 use Rattle.motion.specs.InRange.{displacement-size, newer-spans, older-spans, most-points}
 use Rattle.motion.specs.Linear.{spans-weighted, weighted-size, weighted-linear}
-use Rattle.motion.proofs.equation.free_side.Statement.{statement}
-use Rattle.motion.proofs.equation.free_side.Tie as tie
+use Rattle.motion.proofs.equation.free_side.Goals as goal
+use Rattle.motion.proofs.equation.free_side.Goals.{After-difference-change, Start}
 
-module _ (c : tie.Start) where
+module _ (c : Start) where
   abbrev s : Setup
   s = c.args.setup
 
@@ -87,25 +87,40 @@ abbrev body : Code
 body = ♯ 8192 ⊠ var 1 ⊞ var 0 ⊞ cast w32 (var 2)
 
 -- what the two calls gave
-module _ (d : tie.After-difference) where
-  abbrev a : tie.Start
+module _ (d : After-difference-change) where
+  abbrev a : Start
   a = d.before.before
 
-  d1_is : d.before.d1.result ≡ terms a
-  d1_is = d.before.d1.ensures (weighted (s a) (u a) (v a)) a.pre.1 (in-weighted a)
+  d1_is : d.d1-terms.result ≡ terms a
+  d1_is = d.d1-terms.ensures (weighted (s a) (u a) (v a)) a.requires.1 (in-weighted a)
 
-  terms-size : d.before.d1.result within 4 * weighted_size
+  terms-size : d.d1-terms.result within 4 * weighted_size
   terms-size = rw d1_is (D1-bounded (weighted (s a) (u a) (v a)) (weighted-size (ranges a)) (suc (i a)))
 
-  change-within : d.difference.result within 2097152
-  change-within = rw d.difference.ensures (change-size a)
+  change-within : d.difference-change.result within 2097152
+  change-within = rw d.difference-change.ensures (change-size a)
 
-  ρ : Within (d.before.d1.result ∷ d.difference.result ∷ a.args.force ∷ []) side_sizes
+  ρ : Within (d.d1-terms.result ∷ d.difference-change.result ∷ a.args.force ∷ []) side_sizes
   unfolding force_ok
-  ρ = terms-size ▹ change-within ▹ inside-within 1073741824 a.args.force a.pre.2 ▹ ∅
+  ρ = terms-size ▹ change-within ▹ inside-within 1073741824 a.args.force a.requires.2 ▹ ∅
 
-returns : tie.Need-returns
-returns d = result (ρ d) w64 body tt ∙ ap₂ (λ x y. pos 8192 *ℤ x +ℤ y +ℤ (a d).args.force) d.difference.ensures (d1_is d) ∙ side (a d)
+pub returns : goal.returns
+returns d = result (ρ d) w64 body tt ∙ ap₂ (λ x y. pos 8192 *ℤ x +ℤ y +ℤ (a d).args.force) d.difference-change.ensures (d1_is d) ∙ side (a d)
 
-pub free-side-spec : {M : Type 1} → statement M
-free-side-spec = tie.close (answer ρ w64 body tt (tie.spec (λ c κs. (entry-size c, place c)) (λ c κs. same_length c.before)) returns)
+pub d1-terms-requires : goal.d1-terms-requires
+d1-terms-requires c = (entry-size c, place c)
+
+pub difference-change-requires : goal.difference-change-requires
+difference-change-requires c = same_length c.before
+
+pub overflow_mul-result : goal.overflow_mul-result
+overflow_mul-result c = fits (ρ c) w64 (♯ 8192 ⊠ var 1) tt
+
+pub overflow_add-result : goal.overflow_add-result
+overflow_add-result c = fits (ρ c) w64 (♯ 8192 ⊠ var 1 ⊞ var 0) tt
+
+pub overflow_cast-result : goal.overflow_cast-result
+overflow_cast-result c = fits (ρ c) w64 (cast w32 (var 2)) tt
+
+pub overflow_add-result-2 : goal.overflow_add-result-2
+overflow_add-result-2 c = fits (ρ c) w64 body tt

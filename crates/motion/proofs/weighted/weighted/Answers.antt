@@ -1,4 +1,4 @@
--- `weighted` meets its contract. The loop's invariant: the places up to i are done and the others are 0, and `left` is the displacement at place i.
+-- `weighted` meets its contract.
 use mathlib.Core.Path.{◌≡◌, refl, sym, ◌∙◌, ap}
 use mathlib.Core.List.{List}
 use Prim.Native.Nat.{ℕ, suc, ◌+◌, ◌-◌, ◌≤◌, ◌<◌}
@@ -20,14 +20,8 @@ use Rattle.laws.specs.Strings.{at-past}
 use Rattle.motion.specs.Weighted.{weighted, placed, StringRanges}
 use Rattle.motion.specs.InRange.{displacement, displacement-read, newer-spans, older-spans, some-point, most-points}
 use Rattle.motion.specs.Linear.{weighted-point, weighted-past}
-use Rattle.motion.proofs.weighted.weighted.Statement.{statement}
-use Rattle.motion.proofs.weighted.weighted.Tie as tie
-
-abbrev invariant-loop : tie.invariant-loop
-invariant-loop setup newer older last out₀ left₀ i₀ out left i = (i ≤ last) × (to_z w32 left ≡ at newer i) × Begun (pos 0) 129 (at (weighted setup newer older)) (i + 1) out
-
-abbrev decreases-loop : tie.decreases-loop
-decreases-loop setup newer older last out₀ left₀ i₀ out left i = last - i
+use Rattle.motion.proofs.weighted.weighted.Goals as goal
+use Rattle.motion.proofs.weighted.weighted.Goals.{After-loop-i, Start}
 
 module _ {s : Setup} {u v : List ℤ} (h : StringRanges s u v) where
   -- `weigh` at the point i + 1 gives what the weighted string has there
@@ -37,7 +31,7 @@ module _ {s : Setup} {u v : List ℤ} (h : StringRanges s u v) where
   weighs i l e₁ e₂ e₃ e₄ f e = to_z-of_z f ∙ e ∙ rw (e₁, e₂, e₃, e₄, add-one) (sym (weighted-point s (newer-spans h) (older-spans h) i l))
 
 -- the arguments
-module _ (c : tie.Start invariant-loop decreases-loop) where
+module _ (c : Start) where
   abbrev s : Setup
   s = c.args.setup
 
@@ -71,82 +65,114 @@ module _ (c : tie.Start invariant-loop decreases-loop) where
   some : 1 ≤ length u
   some = let e = ranges.newer-length in let m = some-point ranges in omega arith
 
-loop-holds : tie.Need-loop-init invariant-loop decreases-loop
-loop-holds c = (omega arith, refl, begun-same refl begun-none)
+pub loop-i-init : goal.loop-i-init
+loop-i-init c = (omega arith, refl, begun-same refl begun-none)
 
 -- a turn
-weigh-requires : tie.Need-weigh-requires invariant-loop decreases-loop
-weigh-requires c κs =
+pub weigh-requires : goal.weigh-requires
+weigh-requires c =
     let l = c.before.before.before.before in
     let a = l.before in
-    ((ranges a).setup, displaced a l.loop.left l.loop.i l.loop.invariant.1, newer-ok a l.loop.i, newer-ok a (l.loop.i + 1), older-ok a l.loop.i)
+    ((ranges a).setup, displaced a l.loop-i.left-bits l.loop-i.i l.loop-i.invariant.1, newer-ok a l.loop-i.i, newer-ok a (l.loop-i.i + 1), older-ok a l.loop-i.i)
 
-loop-again : tie.Need-loop-preserved invariant-loop decreases-loop
-loop-again c =
+pub loop-i-preserved : goal.loop-i-preserved
+loop-i-preserved c =
     let l = c.before.before.before.before.before in
     let a = l.before in
-    let i = l.loop.i in
+    let i = l.loop-i.i in
     let k = inside a i (omega arith) in
     let right : to_z w32 (of_z w32 (get_or (u a) (i + 1) (pos 0))) ≡ at (u a) (suc (suc i)) = read-newer a (i + 1) ∙ ap (λ j. get_or (u a) j (pos 0)) (add-one i) in (
       omega arith,
       read-newer a i ∙ ap (at (u a)) (sym (add-one i)),
-      begun_more k.2 l.loop.invariant.2 (weighs (ranges a) i k.0 l.loop.invariant.1 (read-newer a i) right (read-older a i) (record { sfits = c.weigh.type-inv }) c.weigh.ensures),
+      begun_more k.2 l.loop-i.invariant.2 (weighs (ranges a) i k.0 l.loop-i.invariant.1 (read-newer a i) right (read-older a i) (record { sfits = c.weigh.type_inv }) c.weigh.ensures),
     )
 
 -- the last point, whose right neighbour is 0
-last-point : (c : tie.After-loop invariant-loop decreases-loop) → (let l = c.before in (l.loop.i < length (u l.before)) × (l.loop.i < length (v l.before)) × (l.loop.i + 1 < 129))
+last-point : (c : After-loop-i) → (let l = c.before in (l.loop-i.i < length (u l.before)) × (l.loop-i.i < length (v l.before)) × (l.loop-i.i + 1 < 129))
 last-point c =
     let l = c.before in
     let h = some l.before in
-    let k : l.loop.i < length (u l.before) = omega arith in
-    let j = inside l.before l.loop.i k in
+    let k : l.loop-i.i < length (u l.before) = omega arith in
+    let j = inside l.before l.loop-i.i k in
     (k, j.1, j.2)
 
-returns : tie.Need-returns invariant-loop decreases-loop
+pub returns : goal.returns
 unfolding placed
 returns c =
     let l = c.before.before.before.before in
     let a = l.before in
-    let i = l.loop.i in
+    let i = l.loop-i.i in
     let h = some a in
     let k = inside a i (omega arith) in
     let e = (ranges a).newer-length in
     let end : suc i ≡ points (s a) = omega arith in
     let right : pos 0 ≡ at (u a) (suc (suc i)) = sym (rw end (at-past (newer-spans (ranges a)))) in
     begun_all (λ j q. weighted-past (s a) (newer-spans (ranges a)) (older-spans (ranges a)) j (omega arith))
-    (begun_more k.2 l.loop.invariant.2 (weighs (ranges a) i k.0 l.loop.invariant.1 (read-newer a i) right (read-older a i) (record { sfits = c.weigh2.type-inv }) c.weigh2.ensures))
+    (begun_more k.2 l.loop-i.invariant.2 (weighs (ranges a) i k.0 l.loop-i.invariant.1 (read-newer a i) right (read-older a i) (record { sfits = c.weigh-2.type_inv }) c.weigh-2.ensures))
 
-weigh-requires-2 : tie.Need-weigh-requires-2 invariant-loop decreases-loop
+pub weigh-requires-2 : goal.weigh-requires-2
 unfolding displacement_ok Ranges.inside
-weigh-requires-2 c κs =
+weigh-requires-2 c =
     let l = c.before.before.before in
     let a = l.before in
-    ((ranges a).setup, displaced a l.loop.left l.loop.i l.loop.invariant.1, newer-ok a l.loop.i, tt, older-ok a l.loop.i)
+    ((ranges a).setup, displaced a l.loop-i.left-bits l.loop-i.i l.loop-i.invariant.1, newer-ok a l.loop-i.i, tt, older-ok a l.loop-i.i)
 
-pub weighted-spec : {M : Type 1} → statement M
-weighted-spec = tie.close (tie.spec invariant-loop decreases-loop
-    some
-    loop-holds
-    (λ c. omega arith)
-    (λ c. omega arith)
-    (λ c. omega arith)
-    (λ c. omega arith)
-    (λ c. omega arith)
-    (λ c. omega arith)
-    (λ c. let a = c.before.before.before in (inside a.before a.loop.i (omega arith)).1)
-    weigh-requires
-    (λ c. omega arith)
-    (λ c. omega arith)
-    (λ c. let a = c.before.before.before.before.before in (inside a.before a.loop.i (omega arith)).2)
-    (λ c. omega arith)
-    (λ c. omega arith)
-    loop-again
-    (λ c. let k = last-point c in omega arith)
-    (λ c. (last-point c).0)
-    (λ c. let k = last-point c.before in omega arith)
-    (λ c. (last-point c.before).1)
-    weigh-requires-2
-    (λ c. let k = last-point c.before.before.before in omega arith)
-    (λ c. let k = last-point c.before.before.before in omega arith)
-    (λ c. (last-point c.before.before.before).2)
-    returns)
+pub overflow_sub-last : goal.overflow_sub-last
+overflow_sub-last c = some c
+
+pub offset_bounds-newer-i : goal.offset_bounds-newer-i
+offset_bounds-newer-i c = omega arith
+
+pub bounds-newer-i : goal.bounds-newer-i
+bounds-newer-i c = omega arith
+
+pub overflow_add-i : goal.overflow_add-i
+overflow_add-i c = omega arith
+
+pub offset_bounds-newer-i-in-loop-i : goal.offset_bounds-newer-i-in-loop-i
+offset_bounds-newer-i-in-loop-i c = omega arith
+
+pub bounds-newer-i-in-loop-i : goal.bounds-newer-i-in-loop-i
+bounds-newer-i-in-loop-i c = omega arith
+
+pub offset_bounds-older-i : goal.offset_bounds-older-i
+offset_bounds-older-i c = omega arith
+
+pub bounds-older-i : goal.bounds-older-i
+bounds-older-i c = let a = c.before.before.before in (inside a.before a.loop-i.i (omega arith)).1
+
+pub overflow_add-out : goal.overflow_add-out
+overflow_add-out c = omega arith
+
+pub offset_bounds-out-i : goal.offset_bounds-out-i
+offset_bounds-out-i c = omega arith
+
+pub bounds-out-i : goal.bounds-out-i
+bounds-out-i c = let a = c.before.before.before.before.before in (inside a.before a.loop-i.i (omega arith)).2
+
+pub overflow_add-i-in-loop-i : goal.overflow_add-i-in-loop-i
+overflow_add-i-in-loop-i c = omega arith
+
+pub loop-i-smaller : goal.loop-i-smaller
+loop-i-smaller c = omega arith
+
+pub offset_bounds-newer-i-2 : goal.offset_bounds-newer-i-2
+offset_bounds-newer-i-2 c = let k = last-point c in omega arith
+
+pub bounds-newer-i-2 : goal.bounds-newer-i-2
+bounds-newer-i-2 c = (last-point c).0
+
+pub offset_bounds-older-i-2 : goal.offset_bounds-older-i-2
+offset_bounds-older-i-2 c = let k = last-point c.before in omega arith
+
+pub bounds-older-i-2 : goal.bounds-older-i-2
+bounds-older-i-2 c = (last-point c.before).1
+
+pub overflow_add-out-2 : goal.overflow_add-out-2
+overflow_add-out-2 c = let k = last-point c.before.before.before in omega arith
+
+pub offset_bounds-out-i-2 : goal.offset_bounds-out-i-2
+offset_bounds-out-i-2 c = let k = last-point c.before.before.before in omega arith
+
+pub bounds-out-i-2 : goal.bounds-out-i-2
+bounds-out-i-2 c = (last-point c.before.before.before).2

@@ -21,8 +21,8 @@ use Rattle.laws.specs.Pulling.{move_by}
 use Rattle.laws.specs.Sizes.{side-size}
 use Rattle.motion.specs.MoveRanges.{point_sizes}
 use Rattle.motion.specs.declared.settled.Settled.{Settled}
-use Rattle.motion.proofs.settled.settle_point.Statement.{statement}
-use Rattle.motion.proofs.settled.settle_point.Tie as tie
+use Rattle.motion.proofs.settled.settle_point.Goals as goal
+use Rattle.motion.proofs.settled.settle_point.Goals.{After-point_move-delta, Start}
 
 -- what the code works out, from the gradient, the move and the contact variable
 abbrev change : Code
@@ -34,7 +34,7 @@ twice = ♯ 2 ⊠ cast w32 (var 2)
 abbrev next : Code
 next = cast w32 (var 2) ⊟ change
 
-module _ (a : tie.Start) where
+module _ (a : Start) where
   abbrev ψ : ℤ
   ψ = a.args.contact
 
@@ -46,10 +46,10 @@ module _ (a : tie.Start) where
   move h = move_by a.args.setup (with_contact a.args.side ψ) ψ h
 
   move-small : {h : ℤ} → h within 255 → SmallMove h (move h)
-  move-small k = away-small a.args.setup (side-size (entry a.pre.1 0) (entry a.pre.1 2) k) k
+  move-small k = away-small a.args.setup (side-size (entry a.requires.1 0) (entry a.requires.1 2) k) k
 
   read : Within (to_z w64 (of_z w64 a.args.side) ∷ to_z w64 (of_z w64 g) ∷ to_z w32 (of_z w32 ψ) ∷ []) point_sizes
-  read = held-within a.pre.1 w64 (var 0) tt ▹ held-within a.pre.1 w64 (var 1) tt ▹ held-within a.pre.1 w32 (var 2) tt ▹ ∅
+  read = held-within a.requires.1 w64 (var 0) tt ▹ held-within a.requires.1 w64 (var 1) tt ▹ held-within a.requires.1 w32 (var 2) tt ▹ ∅
 
   -- what settles, by the gradient that is left
   settled-by : (h : ℤ) → settled_gradient a.args.setup a.args.side ψ g ≡ h
@@ -57,72 +57,80 @@ module _ (a : tie.Start) where
   settled-by h q = ap (λ h. record { delta = move h; contact = ψ -ℤ h *ℤ move h }) (sym q)
 
 -- the first move
-module _ (d : tie.After-point-move) where
-  abbrev start : tie.Start
+module _ (d : After-point_move-delta) where
+  abbrev start : Start
   start = d.before
 
   abbrev δ : ℤ
-  δ = d.point-move.result
+  δ = d.point_move-delta.result
 
   move-fits : SFits w32 δ
-  move-fits = record { sfits = d.point-move.ok }
+  move-fits = record { sfits = d.point_move-delta.type_inv }
 
   move_is : δ ≡ move start (g start)
-  move_is = let k = start in d.point-move.ensures ∙ (λ i. move_by k.args.setup (with_contact (to_z-of_z k.fits.side i) (to_z-of_z k.fits.contact i)) k.args.contact (to_z-of_z k.fits.gradient i))
+  move_is = let k = start in d.point_move-delta.ensures ∙ (λ i. move_by k.args.setup (with_contact (to_z-of_z k.ranges.side i) (to_z-of_z k.ranges.contact i)) k.args.contact (to_z-of_z k.ranges.gradient i))
 
   small : SmallMove (g start) δ
-  small = subst (SmallMove (g start)) (sym move_is) (move-small start (entry start.pre.1 1))
+  small = subst (SmallMove (g start)) (sym move_is) (move-small start (entry start.requires.1 1))
 
   ρ : Within (g start ∷ δ ∷ ψ start ∷ []) (255 ∷ move_size ∷ 67108864 ∷ [])
-  ρ = entry start.pre.1 1 ▹ small.move ▹ entry start.pre.1 2 ▹ ∅
+  ρ = entry start.requires.1 1 ▹ small.move ▹ entry start.requires.1 2 ▹ ∅
 
   next_fits : SFits w32 (ψ start -ℤ g start *ℤ δ)
-  next_fits = Size.fits (entry start.pre.1 2 ⟨-⟩ small.change) tt
+  next_fits = Size.fits (entry start.requires.1 2 ⟨-⟩ small.change) tt
 
   -- the gradient that is left, by the test
   left_is : (b : Bool) → lt_z (to_z w64 (of_z w64 (pos 2 *ℤ to_z w64 (of_z w64 (to_z w32 (of_z w32 (ψ start))))))) (to_z w64 (of_z w64 (to_z w64 (of_z w64 (g start)) *ℤ to_z w64 (of_z w64 (to_z w32 (of_z w32 δ)))))) ≡ b
       → settled_gradient start.args.setup start.args.side (ψ start) (g start) ≡ cond b (pos 0) (g start)
   unfolding below
-  left_is b q = left-by-test (ψ start) (g start *ℤ move start (g start)) start.pre.2 b
+  left_is b q = left-by-test (ψ start) (g start *ℤ move start (g start)) start.requires.2 b
       (sym (ap₂ lt_z (result ρ w64 twice tt) (result ρ w64 change tt ∙ ap (λ z. g start *ℤ z) move_is)) ∙ q)
 
-point-move-requires-2 : tie.Need-point-move-requires-2
-point-move-requires-2 c κs =
+pub point_move-again-requires : goal.point_move-again-requires
+point_move-again-requires c =
     let k = c.before.before in
     (k.requires.0, held-within k.requires.1 w64 (var 0) tt ▹ wide (num 0) tt ▹ held-within k.requires.1 w32 (var 2) tt ▹ ∅)
 
-returns : tie.Need-returns
-returns c =
+pub returns-then-contact-change : goal.returns-then-contact-change
+returns-then-contact-change c =
     let d = c.before.before in
     let k = start d in
     (λ i. record {
-      delta = (to_z-of_z {w = w32} (record { sfits = c.point-move2.type-inv }) ∙ c.point-move2.ensures ∙ (λ i. move_by k.args.setup (with_contact (to_z-of_z k.fits.side i) (to_z-of_z k.fits.contact i)) k.args.contact (pos 0))) i;
-      contact = (to_z-of_z k.fits.contact ∙ sym (solve 2 (λ ψ m. ψ ⊖ # 0 ⊗ m ≐ ψ) tt (ψ k) (move k (pos 0)))) i;
+      delta = (to_z-of_z {w = w32} (record { sfits = c.point_move-again.type_inv }) ∙ c.point_move-again.ensures ∙ (λ i. move_by k.args.setup (with_contact (to_z-of_z k.ranges.side i) (to_z-of_z k.ranges.contact i)) k.args.contact (pos 0))) i;
+      contact = (to_z-of_z k.ranges.contact ∙ sym (solve 2 (λ ψ m. ψ ⊖ # 0 ⊗ m ≐ ψ) tt (ψ k) (move k (pos 0)))) i;
     })
-    ∙ settled-by k (pos 0) (left_is d true c.before.if1.true)
+    ∙ settled-by k (pos 0) (left_is d true c.if-contact-change.true)
 
-returns-2 : tie.Need-returns-2
-returns-2 c =
+pub returns-else-contact-change : goal.returns-else-contact-change
+returns-else-contact-change c =
     let d = c.before in
     let k = start d in
     (λ i. record {
       delta = (to_z-of_z (move-fits d) ∙ move_is d) i;
       contact = (ap (λ z. to_z w32 (of_z w32 z)) (result (ρ d) w64 next tt) ∙ to_z-of_z (next_fits d) ∙ ap (λ z. ψ k -ℤ g k *ℤ z) (move_is d)) i;
     })
-    ∙ settled-by k (g k) (left_is d false c.if1.false)
+    ∙ settled-by k (g k) (left_is d false c.if-contact-change.false)
 
-pub settle-point-spec : {M : Type 1} → statement M
-settle-point-spec =
-    tie.close
-    (tie.spec
-    (λ a κs. (a.pre.0, read a))
-    (λ d. wide_fits w64 tt (move-fits d))
-    (λ d. fits (ρ d) w64 change tt)
-    (λ d. wide_fits w64 tt (start d).fits.contact)
-    (λ d. fits (ρ d) w64 twice tt)
-    point-move-requires-2
-    (λ c. wide_fits w64 tt (start c.before).fits.contact)
-    (λ c. fits (ρ c.before) w64 next tt)
-    (λ c. subst (λ z. SFits w32 z) (sym (result (ρ c.before) w64 next tt)) (next_fits c.before))
-    returns
-    returns-2)
+pub point_move-delta-requires : goal.point_move-delta-requires
+point_move-delta-requires a = (a.requires.0, read a)
+
+pub overflow_cast-change : goal.overflow_cast-change
+overflow_cast-change d = wide_fits w64 tt (move-fits d)
+
+pub overflow_mul-change : goal.overflow_mul-change
+overflow_mul-change d = fits (ρ d) w64 change tt
+
+pub overflow_cast-contact : goal.overflow_cast-contact
+overflow_cast-contact d = wide_fits w64 tt (start d).ranges.contact
+
+pub overflow_mul-contact : goal.overflow_mul-contact
+overflow_mul-contact d = fits (ρ d) w64 twice tt
+
+pub overflow_cast-result : goal.overflow_cast-result
+overflow_cast-result c = wide_fits w64 tt (start c.before).ranges.contact
+
+pub overflow_sub-result : goal.overflow_sub-result
+overflow_sub-result c = fits (ρ c.before) w64 next tt
+
+pub overflow_cast-result-else-contact-change : goal.overflow_cast-result-else-contact-change
+overflow_cast-result-else-contact-change c = subst (λ z. SFits w32 z) (sym (result (ρ c.before) w64 next tt)) (next_fits c.before)

@@ -15,13 +15,13 @@ use Rattle.integers.specs.Order.{nat_abs-≤, pos-≤}
 use Rattle.integers.specs.Size.{◌within◌, natural, weaken, size-nonneg, ◌⟨*⟩◌}
 use Rattle.integers.specs.Size as Size
 use Rattle.integers.specs.Machine.{Code, var, nat, ◌⊞◌, Within, ∅, ◌▹◌, fits, result, index, held-within}
-use Rattle.motion.proofs.weighted.raised_product.Statement.{statement}
-use Rattle.motion.proofs.weighted.raised_product.Tie as tie
+use Rattle.motion.proofs.weighted.raised_product.Goals as goal
+use Rattle.motion.proofs.weighted.raised_product.Goals.{Start}
 
 abbrev sum : Code
 sum = var 0 ⊞ nat 1
 
-module _ (c : tie.Start) where
+module _ (c : Start) where
   ρ : Within (c.args.x ∷ pos c.args.low ∷ []) (2097152 ∷ 2097152 ∷ [])
   ρ = weaken c.requires.1 c.requires.2 ▹ natural c.requires.2 ▹ ∅
 
@@ -38,15 +38,23 @@ module _ (c : tie.Start) where
   product-size : (pos c.args.factor *ℤ pos raised) within (8192 * 4194304)
   product-size = natural c.requires.0 ⟨*⟩ natural (held-within ρ w32 sum tt).size
 
-returns : tie.Need-returns
+pub returns : goal.returns
 returns c = to_z-of_z {w = w64} (Size.fits (product-size c) tt) ∙ ap (λ z. pos c.args.factor *ℤ z) (raised_is c)
 
-pub raised-product-spec : {M : Type 1} → statement M
-raised-product-spec = tie.close (tie.spec
-    (λ c. fits (ρ c) w32 (nat 1) tt)
-    (λ c. fits (ρ c) w32 sum tt)
-    (λ c. index (ρ c) w32 w32 sum tt tt (not_negative c))
-    (λ c. (index (ρ c) w32 w64 sum tt tt (not_negative c)).1)
-    (λ c. record { fits = lt_of_le_of_lt (product-size c).size (ltb→lt (8192 * 4194304) (2 ^ 64) tt) })
-    (λ c. Size.fits (product-size c) tt)
-    returns)
+pub overflow_cast-raised : goal.overflow_cast-raised
+overflow_cast-raised c = fits (ρ c) w32 (nat 1) tt
+
+pub overflow_add-raised : goal.overflow_add-raised
+overflow_add-raised c = fits (ρ c) w32 sum tt
+
+pub overflow_cast-raised-2 : goal.overflow_cast-raised-2
+overflow_cast-raised-2 c = index (ρ c) w32 w32 sum tt tt (not_negative c)
+
+pub overflow_cast-result-2 : goal.overflow_cast-result-2
+overflow_cast-result-2 c = (index (ρ c) w32 w64 sum tt tt (not_negative c)).1
+
+pub overflow_mul-result : goal.overflow_mul-result
+overflow_mul-result c = record { fits = lt_of_le_of_lt (product-size c).size (ltb→lt (8192 * 4194304) (2 ^ 64) tt) }
+
+pub overflow_cast-result-3 : goal.overflow_cast-result-3
+overflow_cast-result-3 c = Size.fits (product-size c) tt
