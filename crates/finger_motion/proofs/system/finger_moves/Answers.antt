@@ -6,7 +6,7 @@ use lib.IntN.{ℤ, pos, neg_ℤ, +ℤ_idl, ◌*ℤ◌}
 use lib.Signed.{◌<ℤ◌}
 use mir.Syntax.{w32, w64}
 use Rattle.integers.specs.Size.{◌within◌, natural, wide}
-use Rattle.integers.specs.Machine.{Code, var, nat, ♯◌, ◌⊞◌, ◌⊟◌, ◌⊠◌, cast, done, Within, ∅, ◌▹◌, held, result, held-within, answer}
+use Rattle.integers.specs.Machine.{Code, var, nat, ♯◌, ◌⊞◌, ◌⊟◌, ◌⊠◌, cast, done, Within, ∅, ◌▹◌, held, result, held-within, fits}
 use Rattle.model.specs.System.{System, det}
 use Rattle.model.specs.Step.{finger_system}
 use Rattle.model.specs.Ranges.{displacement_ok, contact_ok, force_ok}
@@ -17,8 +17,8 @@ use Rattle.laws.specs.Moves.{regular-system}
 use Rattle.laws.specs.Sizes.{inside-within}
 use Rattle.rounding.specs.Same.{same-system}
 use Rattle.rounding.specs.Systems.{system_of, rounded, Solvable}
-use Rattle.finger_motion.proofs.system.finger_moves.Statement.{statement}
-use Rattle.finger_motion.proofs.system.finger_moves.Tie as tie
+use Rattle.finger_motion.proofs.system.finger_moves.Goals as goal
+use Rattle.finger_motion.proofs.system.finger_moves.Goals.{After-struct_told-3-1, Start}
 
 -- factor, right side, gradient, mass, the finger's heights and contact variable, force
 abbrev sizes : List ℕ
@@ -49,9 +49,9 @@ abbrev c₂ : Code
 c₂ = ♯ 2 ⊠ nat 3 ⊠ done change ⊞ cast w32 (var 7) ⊞ done pull
 
 abbrev Read : Type 0
-Read = tie.After-struct-told3
+Read = After-struct_told-3-1
 
-abbrev start : Read → tie.Start
+abbrev start : Read → Start
 start c = c.before.before.before
 
 module _ (c : Read) where
@@ -99,10 +99,65 @@ module _ (c : Read) where
         held-within ρ w64 c₁₁ tt ▹ held-within ρ w64 c₁₂ tt ▹ held-within ρ w64 c₁₂ tt ▹ held-within ρ w64 c₂₂ tt ▹ b₁ ▹ b₂ ▹ ∅;
   }
 
-returns : tie.Need-returns
+pub returns : goal.returns
 returns c = c.solve.ensures ∙ ap rounded (same c.before)
 
-pub finger-moves-spec : {M : Type 1} → statement M
-finger-moves-spec =
-    tie.close (answer ρ w64 c₂ tt (answer ρ w64 c₁ tt (answer ρ w64 c₂₂ tt (answer ρ w64 c₁₂ tt (answer ρ w64 c₁₂ tt (answer ρ w64 c₁₁ tt (answer ρ w64 change tt (answer ρ w64 pull tt (answer ρ w64 square tt tie.spec))))))))
-    (λ c κs. solvable c) returns)
+pub overflow_mul-square : goal.overflow_mul-square
+overflow_mul-square c = fits (ρ c) w64 square tt
+
+pub overflow_mul-pull : goal.overflow_mul-pull
+overflow_mul-pull c = fits (ρ c) w64 (♯ 2 ⊠ var 2) tt
+
+pub overflow_cast-pull : goal.overflow_cast-pull
+overflow_cast-pull c = fits (ρ c) w64 (cast w32 (var 6)) tt
+
+pub overflow_mul-pull-2 : goal.overflow_mul-pull-2
+overflow_mul-pull-2 c = fits (ρ c) w64 pull tt
+
+pub overflow_cast-change : goal.overflow_cast-change
+overflow_cast-change c = fits (ρ c) w64 (cast w32 (var 4)) tt
+
+pub overflow_cast-change-2 : goal.overflow_cast-change-2
+overflow_cast-change-2 c = fits (ρ c) w64 (cast w32 (var 5)) tt
+
+pub overflow_sub-change : goal.overflow_sub-change
+overflow_sub-change c = fits (ρ c) w64 change tt
+
+pub overflow_add-matrix : goal.overflow_add-matrix
+overflow_add-matrix c = fits (ρ c) w64 c₁₁ tt
+
+pub overflow_sub-matrix : goal.overflow_sub-matrix
+overflow_sub-matrix c = fits (ρ c) w64 c₁₂ tt
+
+pub overflow_sub-matrix-2 : goal.overflow_sub-matrix-2
+overflow_sub-matrix-2 c = fits (ρ c) w64 c₁₂ tt
+
+pub overflow_cast-matrix : goal.overflow_cast-matrix
+overflow_cast-matrix c = fits (ρ c) w64 (nat 3) tt
+
+pub overflow_add-matrix-2 : goal.overflow_add-matrix-2
+overflow_add-matrix-2 c = fits (ρ c) w64 c₂₂ tt
+
+pub overflow_sub-right : goal.overflow_sub-right
+overflow_sub-right c = fits (ρ c) w64 c₁ tt
+
+pub overflow_cast-right : goal.overflow_cast-right
+overflow_cast-right c = fits (ρ c) w64 (nat 3) tt
+
+pub overflow_mul-right : goal.overflow_mul-right
+overflow_mul-right c = fits (ρ c) w64 (♯ 2 ⊠ nat 3) tt
+
+pub overflow_mul-right-2 : goal.overflow_mul-right-2
+overflow_mul-right-2 c = fits (ρ c) w64 (♯ 2 ⊠ nat 3 ⊠ done change) tt
+
+pub overflow_cast-right-2 : goal.overflow_cast-right-2
+overflow_cast-right-2 c = fits (ρ c) w64 (cast w32 (var 7)) tt
+
+pub overflow_add-right : goal.overflow_add-right
+overflow_add-right c = fits (ρ c) w64 (♯ 2 ⊠ nat 3 ⊠ done change ⊞ cast w32 (var 7)) tt
+
+pub overflow_add-right-2 : goal.overflow_add-right-2
+overflow_add-right-2 c = fits (ρ c) w64 c₂ tt
+
+pub solve-requires : goal.solve-requires
+solve-requires c = solvable c
