@@ -16,13 +16,13 @@ use Rattle.model.specs.Ranges.{displacement_ok}
 use Rattle.model.specs.declared.Reading.{Reading}
 use Rattle.model.specs.declared.Reading.TheVariants.{Free, Pressed}
 use Rattle.laws.specs.Sizes.{inside-within, height-within, depth-ok}
-use Rattle.reading.proofs.shown.shown.Statement.{statement}
-use Rattle.reading.proofs.shown.shown.Tie as tie
+use Rattle.reading.proofs.shown.shown.Goals as goal
+use Rattle.reading.proofs.shown.shown.Goals.{After-double-displacement, Else-depth-gt0, Start, Then-depth-gt0}
 
 abbrev difference : Code
 difference = var 0 ⊟ var 1
 
-module _ (c : tie.Start) where
+module _ (c : Start) where
   abbrev u : ℤ
   u = c.args.u
 
@@ -47,29 +47,29 @@ module _ (c : tie.Start) where
   abbrev reading : Bool → Reading
   reading b = cond b (Pressed (fraction binary64 u) (fraction binary64 depth)) (Free (fraction binary64 u))
 
-double-requires : tie.Need-double-requires
-double-requires c κs = subst (λ x. T (displacement_ok x)) (sym (u_is c)) c.requires.0
+pub double-displacement-requires : goal.double-displacement-requires
+double-displacement-requires c = subst (λ x. T (displacement_ok x)) (sym (u_is c)) c.requires.0
 
-pressed : (c : tie.Then1) → lt_z (pos 0) (depth c.before.before) ≡ true
-pressed c = ap (lt_z (pos 0)) (sym (depth_is c.before.before)) ∙ c.if1.true
+pressed : (c : Then-depth-gt0) → lt_z (pos 0) (depth c.before.before) ≡ true
+pressed c = ap (lt_z (pos 0)) (sym (depth_is c.before.before)) ∙ c.if-depth-gt0.true
 
-free : (c : tie.Else1) → lt_z (pos 0) (depth c.before.before) ≡ false
-free c = ap (lt_z (pos 0)) (sym (depth_is c.before.before)) ∙ c.if1.false
+free : (c : Else-depth-gt0) → lt_z (pos 0) (depth c.before.before) ≡ false
+free c = ap (lt_z (pos 0)) (sym (depth_is c.before.before)) ∙ c.if-depth-gt0.false
 
-double-requires-2 : tie.Need-double-requires-2
-double-requires-2 c κs = let a = c.before.before in subst (λ x. T (displacement_ok x)) (sym (depth_is a)) (depth-ok (height a) (u a) a.requires.1 a.requires.0 (lt_z-true (pos 0) (depth a) (pressed c)))
+pub double-requires : goal.double-requires
+double-requires c = let a = c.before.before in subst (λ x. T (displacement_ok x)) (sym (depth_is a)) (depth-ok (height a) (u a) a.requires.1 a.requires.0 (lt_z-true (pos 0) (depth a) (pressed c)))
 
-displacement : (c : tie.After-double) → c.double.result ≡ fraction binary64 (u c.before)
-displacement c = c.double.ensures.0 ∙ ap (fraction binary64) (u_is c.before)
+displacement : (c : After-double-displacement) → c.double-displacement.result ≡ fraction binary64 (u c.before)
+displacement c = c.double-displacement.ensures.0 ∙ ap (fraction binary64) (u_is c.before)
 
-returns : tie.Need-returns
-returns c =
+pub returns-then-depth-gt0 : goal.returns-then-depth-gt0
+returns-then-depth-gt0 c =
     let d = c.before.before in
     let a = d.before in
-    ap₂ Pressed (displacement d) (c.double2.ensures.0 ∙ ap (fraction binary64) (depth_is a)) ∙ sym (ap (reading a) (pressed c.before))
+    ap₂ Pressed (displacement d) (c.double.ensures.0 ∙ ap (fraction binary64) (depth_is a)) ∙ sym (ap (reading a) (pressed c.before))
 
-returns-2 : tie.Need-returns-2
-returns-2 c = ap Free (displacement c.before) ∙ sym (ap (reading c.before.before) (free c))
+pub returns-else-depth-gt0 : goal.returns-else-depth-gt0
+returns-else-depth-gt0 c = ap Free (displacement c.before) ∙ sym (ap (reading c.before.before) (free c))
 
-pub shown-spec : {M : Type 1} → statement M
-shown-spec = tie.close (tie.spec double-requires (λ c. fits (ρ c.before) w32 difference tt) double-requires-2 returns returns-2)
+pub overflow_sub-depth : goal.overflow_sub-depth
+overflow_sub-depth c = fits (ρ c.before) w32 difference tt
