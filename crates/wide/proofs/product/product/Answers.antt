@@ -53,7 +53,7 @@ module _ (k : Start) where
   factors = ap₂ (λ y z. y *ℤ z) (to_z-of_z k.ranges.a) (result ρ w64 rest tt ∙ low.1.0)
 
   low_is : to_z w64 (of_z w64 (to_z w64 (of_z w64 a) *ℤ held (a ∷ b ∷ []) w64 rest)) ≡ a *ℤ pos low.0
-  low_is = ap (λ z. to_z w64 (of_z w64 z)) factors ∙ to_z-of_z (Size.fits low-within tt)
+  low_is = ap (λ z. to_z w64 (of_z w64 z)) factors ∙ to_z-of_z {w = w64} (Size.fits low-within tt)
 
 pub raised-requires : goal.raised-requires
 raised-requires k = rw (high_is k) (wide (high-within k) tt)
