@@ -13,7 +13,6 @@ use Rattle.integers.specs.Size as Size
 use Rattle.integers.specs.Size.{◌within◌, ◌⟨*⟩◌, natural, num, wide}
 use Rattle.integers.specs.Machine.{Code, var, ♯◌, ◌⊟◌, ◌⊠◌, ◌≫◌, Within, ∅, ◌▹◌, held, fits, result, sized}
 use Rattle.integers.specs.Solve.{◌⊕◌, ◌⊖◌, ◌⊗◌, #◌, ◌≐◌, solve}
-use Rattle.model.specs.Wide.{value}
 use Rattle.wide.specs.Words.{halves}
 use Rattle.wide.proofs.product.product.Goals as goal
 use Rattle.wide.proofs.product.product.Goals.{Start}

@@ -1,17 +1,16 @@
 -- `times` meets its contract: the low word's product carries into the high word's.
 use mathlib.Core.Path.{◌≡◌, ◌∙◌, ap, ap₂}
-use Prim.Native.Nat.{ℕ, ◌+◌, ◌*◌, ◌^◌, ◌<◌}
+use Prim.Native.Nat.{ℕ, ◌+◌, ◌^◌, ◌<◌}
 use native.Mathlib.Nat.{mul-le-mul, le_of_lt}
 use native.Mathlib.Omega.{arith}
 use borrow.Author.Rules.{rules}
-use lib.IntN.{ℤ, pos, ◌+ℤ◌, ◌*ℤ◌}
+use lib.IntN.{pos, ◌+ℤ◌, ◌*ℤ◌}
 use mir.Syntax.{w64}
 use mir.Val.{to_z, of_z}
 use mir.Facts.{to_z-of_z, to_z_pos}
 use Rattle.integers.specs.Size as Size
 use Rattle.integers.specs.Size.{◌within◌, ◌⟨+⟩◌, natural, wide}
 use Rattle.integers.specs.Solve.{◌⊕◌, ◌⊗◌, #◌, ◌≐◌, solve}
-use Rattle.model.specs.Wide.{value}
 use Rattle.model.specs.declared.Wide.{Wide}
 use Rattle.wide.specs.Words.{high_size, high-within, high-part-within}
 use Rattle.wide.proofs.product.times.Goals as goal
