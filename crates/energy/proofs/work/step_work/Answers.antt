@@ -1,13 +1,11 @@
 -- The index of the pluck place lies on both strings.
 use mathlib.Core.Path.{◌≡◌, ◌∙◌, ap, ap₂, sym}
 use mathlib.Core.List.{List, [], ◌∷◌}
-use Prim.Native.Nat.{ℕ, suc, ◌-◌, ◌≤◌, ◌<◌}
+use Prim.Native.Nat.{suc, ◌-◌, ◌≤◌, ◌<◌}
 use native.Mathlib.Omega.{arith}
-use borrow.Author.Rules.{rules}
 use lib.IntN.{ℤ, pos, ◌+ℤ◌, ◌-ℤ◌, ◌*ℤ◌}
 use lib.ListN.{length, get_or}
-use mir.Syntax.{w32}
-use mir.Val.{to_z, of_z}
+use mir.Syntax.{w32, w64}
 use mir.Facts.{to_z-of_z}
 use Rattle.integers.specs.Machine.{var, Within, ∅, ◌▹◌, result, held-within}
 use Rattle.model.specs.Ranges.{displacement_ok, force_ok}
@@ -18,10 +16,10 @@ use Rattle.laws.specs.Accepted.{SetupFacts, setup-facts}
 use Rattle.laws.specs.Sizes.{inside-within}
 use Rattle.laws.specs.Strings.{at-index, at-minus}
 use Rattle.laws.specs.EnergySizes.{Strings, newer-within, older-within, spans-newer, spans-older}
-use Rattle.energy.proofs.work.step_work.Statement.{statement}
-use Rattle.energy.proofs.work.step_work.Tie as tie
+use Rattle.energy.proofs.work.step_work.Goals as goal
+use Rattle.energy.proofs.work.step_work.Goals.{Start}
 
-module _ (c : tie.Start) where
+module _ (c : Start) where
   abbrev s : Setup
   s = c.args.setup
 
@@ -50,27 +48,27 @@ module _ (c : tie.Start) where
   move = ap₂ (λ x y. x -ℤ y) (sym (at-index u (e s) inside.0)) (sym (at-index v (e s) inside.0))
       ∙ sym (at-minus (spans-newer ok) (spans-older ok) (e s))
 
-work-of-requires : tie.Need-work-of-requires
-work-of-requires c κs =
+pub work_of-requires : goal.work_of-requires
+work_of-requires c =
     let r = ρ c.before.before.before in
     held-within r w32 (var 0) tt ▹ held-within r w32 (var 1) tt ▹ held-within r w32 (var 2) tt ▹ held-within r w32 (var 3) tt ▹ held-within r w32 (var 4) tt ▹ held-within r w32 (var 5) tt ▹ ∅
 
-returns : tie.Need-returns
+pub returns : goal.returns
 returns c =
     let k = c.before.before.before.before in
     let r = ρ k in
-    to_z-of_z (record { sfits = c.work-of.type-inv })
-    ∙ (rw (result r w32 (var 0) tt, result r w32 (var 1) tt, result r w32 (var 2) tt, result r w32 (var 3) tt, result r w32 (var 4) tt, result r w32 (var 5) tt) at c.work-of.ensures)
+    to_z-of_z {w = w64} (record { sfits = c.work_of.type_inv })
+    ∙ (rw (result r w32 (var 0) tt, result r w32 (var 1) tt, result r w32 (var 2) tt, result r w32 (var 3) tt, result r w32 (var 4) tt, result r w32 (var 5) tt) at c.work_of.ensures)
     ∙ ap (λ d. pos 2 *ℤ k.args.pluck *ℤ d +ℤ pos 2 *ℤ k.args.force *ℤ (k.args.height -ℤ k.args.before)) (move k)
 
-pub step-work-spec : {M : Type 1} → statement M
-step-work-spec = tie.close (tie.spec
-    (λ c. search rules)
-    (λ c. (inside c.before).0)
-    (λ c. search rules)
-    (λ c. (inside c.before).1.0)
-    (λ c. (inside c.before.before).0)
-    (λ c. search rules)
-    (λ c. (inside c.before.before).1.1)
-    work-of-requires
-    returns)
+pub overflow_sub-x : goal.overflow_sub-x
+overflow_sub-x c = (inside c.before).0
+
+pub bounds-new-place : goal.bounds-new-place
+bounds-new-place c = (inside c.before).1.0
+
+pub overflow_sub-y : goal.overflow_sub-y
+overflow_sub-y c = (inside c.before.before).0
+
+pub bounds-older-place : goal.bounds-older-place
+bounds-older-place c = (inside c.before.before).1.1

@@ -1,18 +1,17 @@
 -- Each of the four parts fits; the middle term is twice its half.
 use mathlib.Core.Path.{◌≡◌, ◌∙◌, ap₂}
 use mathlib.Core.List.{List, [], ◌∷◌}
-use Prim.Native.Nat.{ℕ, ◌*◌, ◌^◌}
-use borrow.Author.Rules.{rules}
+use Prim.Native.Nat.{◌^◌}
 use lib.IntN.{ℤ, pos, ◌+ℤ◌, ◌-ℤ◌, ◌*ℤ◌}
 use mir.Syntax.{w32, w64}
 use Rattle.integers.specs.Size.{◌within◌, wide}
 use Rattle.integers.specs.Solve.{◌⊕◌, ◌⊗◌, #◌, ◌≐◌, solve}
-use Rattle.integers.specs.Machine.{Code, var, nat, ♯◌, cast, done, Within, ∅, ◌▹◌, held, value, result, held-within, answer}
+use Rattle.integers.specs.Machine.{Code, var, nat, ♯◌, cast, done, Within, ∅, ◌▹◌, held, value, result, held-within, fits}
 use Rattle.integers.specs.Machine.{◌⊟◌, ◌⊠◌}
 use Rattle.model.specs.declared.Finger.{Finger}
 use Rattle.energy.specs.Parts.{rest_part, rest_sizes}
-use Rattle.energy.proofs.stored.rest_energy.Statement.{statement}
-use Rattle.energy.proofs.stored.rest_energy.Tie as tie
+use Rattle.energy.proofs.stored.rest_energy.Goals as goal
+use Rattle.energy.proofs.stored.rest_energy.Goals.{After-struct_told-3-1, Start}
 
 abbrev change : Code
 change = cast w32 (var 2 ⊟ var 3)
@@ -29,8 +28,8 @@ own = cast w32 (var 4)
 abbrev square : Code
 square = ♯ 2 ⊠ (done own ⊠ done own)
 
-module _ (c : tie.After-struct-told3) where
-  abbrev k : tie.Start
+module _ (c : After-struct_told-3-1) where
+  abbrev k : Start
   k = c.before.before.before
 
   abbrev f : Finger
@@ -40,7 +39,7 @@ module _ (c : tie.After-struct-told3) where
   numbers = pos k.args.mass ∷ k.args.contacts ∷ f.newer ∷ f.older ∷ f.contact ∷ []
 
   ρ : Within numbers rest_sizes
-  ρ = k.pre
+  ρ = k.requires
 
   contacts-size : held numbers w64 contacts within 2 ^ 62
   contacts-size = wide (held-within ρ w64 contacts tt) tt
@@ -57,10 +56,26 @@ module _ (c : tie.After-struct-told3) where
   twice : value numbers contacts +ℤ value numbers half +ℤ value numbers half +ℤ value numbers square ≡ rest_part k.args.mass k.args.contacts f
   twice = solve 4 (λ a m d b. a ⊕ m ⊗ d ⊕ m ⊗ d ⊕ b ≐ a ⊕ # 2 ⊗ m ⊗ d ⊕ b) tt (pos 2 *ℤ k.args.contacts) (pos k.args.mass) ((f.newer -ℤ f.older) *ℤ (f.newer -ℤ f.older)) (pos 2 *ℤ (f.contact *ℤ f.contact))
 
-returns : tie.Need-returns
-returns c = c.four.ensures ∙ sum_is c.before ∙ twice c.before
+pub overflow_sub-change : goal.overflow_sub-change
+overflow_sub-change c = fits (ρ c) w32 (var 2 ⊟ var 3) tt
 
-pub rest-energy-spec : {M : Type 1} → statement M
-rest-energy-spec = tie.close (answer ρ w64 square tt (answer ρ w64 contacts tt (answer ρ w64 own tt (answer ρ w64 half tt (answer ρ w64 change tt tie.spec))))
-    (λ c κs. contacts-size c ▹ half-size c ▹ half-size c ▹ square-size c ▹ ∅)
-    returns)
+pub overflow_mul-half : goal.overflow_mul-half
+overflow_mul-half c = fits (ρ c) w64 (done change ⊠ done change) tt
+
+pub overflow_mul-half-2 : goal.overflow_mul-half-2
+overflow_mul-half-2 c = fits (ρ c) w64 half tt
+
+pub overflow_mul-contacts : goal.overflow_mul-contacts
+overflow_mul-contacts c = fits (ρ c) w64 contacts tt
+
+pub overflow_mul-own : goal.overflow_mul-own
+overflow_mul-own c = fits (ρ c) w64 (done own ⊠ done own) tt
+
+pub overflow_mul-own-2 : goal.overflow_mul-own-2
+overflow_mul-own-2 c = fits (ρ c) w64 square tt
+
+pub four-requires : goal.four-requires
+four-requires c = contacts-size c ▹ half-size c ▹ half-size c ▹ square-size c ▹ ∅
+
+pub returns : goal.returns
+returns c = c.four.ensures ∙ sum_is c.before ∙ twice c.before
