@@ -16,11 +16,9 @@ use Rattle.model.specs.Differences.{at}
 use Rattle.laws.specs.EnergySizes.{Strings, newer-within, older-within}
 use Rattle.energy_sums.specs.Raised.{raised, raised-within, only-term}
 use Rattle.energy_sums.specs.Summing.{next_fits, next-sum}
+use Rattle.energy_sums.proofs.bends.bend_products.Invariants.{term}
 use Rattle.energy_sums.proofs.bends.bend_products.Goals as goal
 use Rattle.energy_sums.proofs.bends.bend_products.Goals.{After-bend_product-total, After-old_right-1, Start}
-
-abbrev term : List ℤ → List ℤ → ℕ → ℤ
-term u v k = raised (bend (at u) k) (bend (at v) k)
 
 term-within : {u v : List ℤ} → Strings u v → (k : ℕ) → term u v k within 2 ^ 52
 term-within h k =

@@ -9,7 +9,7 @@ use Rattle.model.specs.Differences.{at}
 use Rattle.energy_sums.specs.Raised.{raised}
 use Rattle.energy_sums.proofs.bends.bend_products.Given as goal
 
-abbrev term : List ℤ → List ℤ → ℕ → ℤ
+abbrev pub term : List ℤ → List ℤ → ℕ → ℤ
 term u v k = raised (bend (at u) k) (bend (at v) k)
 
 abbrev pub invariant-loop-i : goal.invariant-loop-i

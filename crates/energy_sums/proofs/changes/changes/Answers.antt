@@ -12,14 +12,11 @@ use Rattle.integers.specs.Sum.{sum}
 use Rattle.integers.specs.Size.{◌within◌, ◌⟨*⟩◌, wide}
 use Rattle.model.specs.Differences.{minus}
 use Rattle.laws.specs.EnergySizes.{Strings, change-within, spans-newer, spans-older}
-use Rattle.laws.specs.Strings.{◌·◌, spans-minus, dot-form, form}
+use Rattle.laws.specs.Strings.{spans-minus, dot-form, form}
 use Rattle.energy_sums.specs.Summing.{next_fits, next-sum}
+use Rattle.energy_sums.proofs.changes.changes.Invariants.{term}
 use Rattle.energy_sums.proofs.changes.changes.Goals as goal
 use Rattle.energy_sums.proofs.changes.changes.Goals.{After-change_square-total, Start}
-
--- a² at each point
-abbrev term : List ℤ → List ℤ → ℕ → ℤ
-term u v = minus u v · minus u v
 
 term-within : {u v : List ℤ} → Strings u v → (k : ℕ) → term u v k within 2 ^ 52
 term-within h k = wide (change-within h (suc k) ⟨*⟩ change-within h (suc k)) tt

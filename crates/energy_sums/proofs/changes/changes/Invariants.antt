@@ -10,7 +10,7 @@ use Rattle.laws.specs.Strings.{◌·◌}
 use Rattle.energy_sums.proofs.changes.changes.Given as goal
 
 -- a² at each point
-abbrev term : List ℤ → List ℤ → ℕ → ℤ
+abbrev pub term : List ℤ → List ℤ → ℕ → ℤ
 term u v = minus u v · minus u v
 
 abbrev pub invariant-loop-i : goal.invariant-loop-i

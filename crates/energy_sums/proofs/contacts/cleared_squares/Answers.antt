@@ -1,9 +1,7 @@
 -- The total is the sum over the first i points.
 use mathlib.Core.Path.{◌≡◌, refl, sym, ◌∙◌, ap}
-use mathlib.Core.List.{List}
 use Prim.Native.Nat.{ℕ, suc, ◌^◌, ◌<◌}
 use native.Mathlib.Omega.{arith}
-use lib.IntN.{ℤ}
 use lib.ListN.{length}
 use mir.Syntax.{w64}
 use mir.Val.{to_z, of_z}
@@ -13,12 +11,9 @@ use Rattle.integers.specs.Size.{◌within◌, ◌⟨*⟩◌}
 use Rattle.laws.specs.Strings.{◌·◌, dot-form, form}
 use Rattle.energy_sums.specs.Contacts.{cleared_contacts, spans-cleared, cleared-within}
 use Rattle.energy_sums.specs.Summing.{next_fits, next-sum}
+use Rattle.energy_sums.proofs.contacts.cleared_squares.Invariants.{term}
 use Rattle.energy_sums.proofs.contacts.cleared_squares.Goals as goal
 use Rattle.energy_sums.proofs.contacts.cleared_squares.Goals.{After-cleared_square-total, Start}
-
--- the square of what is cleared at each point
-abbrev term : (heights newer contact : List ℤ) → ℕ → ℤ
-term heights newer contact = cleared_contacts heights newer contact · cleared_contacts heights newer contact
 
 term-within : (k : Start) (j : ℕ) → term k.args.heights.now k.args.newer.now k.args.contact.now j within 2 ^ 52
 term-within k j = cleared-within k.requires (suc j) ⟨*⟩ cleared-within k.requires (suc j)

@@ -10,7 +10,7 @@ use Rattle.energy_sums.specs.Contacts.{cleared_contacts}
 use Rattle.energy_sums.proofs.contacts.cleared_squares.Given as goal
 
 -- the square of what is cleared at each point
-abbrev term : (heights newer contact : List ℤ) → ℕ → ℤ
+abbrev pub term : (heights newer contact : List ℤ) → ℕ → ℤ
 term heights newer contact = cleared_contacts heights newer contact · cleared_contacts heights newer contact
 
 abbrev pub invariant-loop-i : goal.invariant-loop-i

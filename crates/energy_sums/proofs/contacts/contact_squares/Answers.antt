@@ -1,10 +1,9 @@
 -- The total is the sum over the first i points.
 use mathlib.Core.Path.{◌≡◌, refl, ◌∙◌, ap}
-use mathlib.Core.List.{List}
 use Prim.Native.Nat.{ℕ, suc, ◌^◌, ◌<◌}
 use native.Mathlib.Omega.{arith}
 use borrow.Author.Rules.{sfits_of}
-use lib.IntN.{ℤ, pos, ◌*ℤ◌}
+use lib.IntN.{pos, ◌*ℤ◌}
 use lib.ListN.{length, get_or}
 use mir.Syntax.{w32, w64}
 use mir.Val.{to_z, of_z}
@@ -14,14 +13,10 @@ use Rattle.integers.specs.Size.{◌within◌, ◌⟨*⟩◌}
 use Rattle.model.specs.Differences.{dot}
 use Rattle.model.specs.Ranges.{contact_ok}
 use Rattle.laws.specs.Sizes.{Bounded, bounded}
-use Rattle.laws.specs.Strings.{◌·◌}
 use Rattle.energy_sums.specs.Summing.{next_fits, next-sum}
+use Rattle.energy_sums.proofs.contacts.contact_squares.Invariants.{term}
 use Rattle.energy_sums.proofs.contacts.contact_squares.Goals as goal
 use Rattle.energy_sums.proofs.contacts.contact_squares.Goals.{After-square-total, Start}
-
--- ψ² at each point
-abbrev term : List ℤ → ℕ → ℤ
-term ψ = ψ · ψ
 
 contact-within : (k : Start) → Bounded k.args.contact.now 67108864
 unfolding contact_ok

@@ -9,7 +9,7 @@ use Rattle.laws.specs.Strings.{◌·◌}
 use Rattle.energy_sums.proofs.contacts.contact_squares.Given as goal
 
 -- ψ² at each point
-abbrev term : List ℤ → ℕ → ℤ
+abbrev pub term : List ℤ → ℕ → ℤ
 term ψ = ψ · ψ
 
 abbrev pub invariant-loop-i : goal.invariant-loop-i

@@ -17,11 +17,9 @@ use Rattle.laws.specs.EnergySizes.{Strings, newer-within, older-within, change-w
 use Rattle.laws.specs.Strings.{rise, at-minus}
 use Rattle.energy_sums.specs.Raised.{raised, raised-within, only-term}
 use Rattle.energy_sums.specs.Summing.{next_fits, next-sum}
+use Rattle.energy_sums.proofs.rises.change_rise_squares.Invariants.{term}
 use Rattle.energy_sums.proofs.rises.change_rise_squares.Goals as goal
 use Rattle.energy_sums.proofs.rises.change_rise_squares.Goals.{After-change_rise_square-total, After-old-1, Start}
-
-abbrev term : List ℤ → List ℤ → ℕ → ℤ
-term u v k = let a = rise (at (minus u v)) k in raised a a
 
 term-within : {u v : List ℤ} → Strings u v → (k : ℕ) → term u v k within 2 ^ 52
 term-within h k = let a = change-within h (suc k) ⟨-⟩ change-within h k in wide (raised-within a a) tt

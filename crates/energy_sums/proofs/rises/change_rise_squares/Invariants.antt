@@ -10,7 +10,7 @@ use Rattle.laws.specs.Strings.{rise}
 use Rattle.energy_sums.specs.Raised.{raised}
 use Rattle.energy_sums.proofs.rises.change_rise_squares.Given as goal
 
-abbrev term : List ℤ → List ℤ → ℕ → ℤ
+abbrev pub term : List ℤ → List ℤ → ℕ → ℤ
 term u v k = let a = rise (at (minus u v)) k in raised a a
 
 abbrev pub invariant-loop-i : goal.invariant-loop-i

@@ -17,11 +17,9 @@ use Rattle.laws.specs.EnergySizes.{Strings, newer-within, older-within}
 use Rattle.laws.specs.Strings.{rise}
 use Rattle.energy_sums.specs.Raised.{raised, raised-within, only-term}
 use Rattle.energy_sums.specs.Summing.{next_fits, next-sum}
+use Rattle.energy_sums.proofs.rises.rise_products.Invariants.{term}
 use Rattle.energy_sums.proofs.rises.rise_products.Goals as goal
 use Rattle.energy_sums.proofs.rises.rise_products.Goals.{After-old-1, After-rise_product-total, Start}
-
-abbrev term : List ℤ → List ℤ → ℕ → ℤ
-term u v k = raised (rise (at u) k) (rise (at v) k)
 
 term-within : {u v : List ℤ} → Strings u v → (k : ℕ) → term u v k within 2 ^ 52
 term-within h k = wide (raised-within (wide (newer-within h (suc k) ⟨-⟩ newer-within h k) tt) (wide (older-within h (suc k) ⟨-⟩ older-within h k) tt)) tt

@@ -10,7 +10,7 @@ use Rattle.laws.specs.Strings.{rise}
 use Rattle.energy_sums.specs.Raised.{raised}
 use Rattle.energy_sums.proofs.rises.rise_products.Given as goal
 
-abbrev term : List ℤ → List ℤ → ℕ → ℤ
+abbrev pub term : List ℤ → List ℤ → ℕ → ℤ
 term u v k = raised (rise (at u) k) (rise (at v) k)
 
 abbrev pub invariant-loop-i : goal.invariant-loop-i
