@@ -125,8 +125,5 @@ bend_product-total-requires c = ((start c.before.before.before).requires.0, c.lo
 pub overflow_add-total : goal.overflow_add-total
 overflow_add-total c = next_fits (terms c) (total c) (i c) (sofar c) (term_is c) (here c) (term-within (k c).requires.0)
 
-pub loop-i-smaller : goal.loop-i-smaller
-loop-i-smaller c = omega (arith, c.loop-i-test.true)
-
 pub loop-i-preserved : goal.loop-i-preserved
 loop-i-preserved c = (omega arith, omega (arith, c.loop-i-test.true), next-sum (terms c) (total c) (i c) (sofar c) (term_is c) (here c) (term-within (k c).requires.0))

@@ -14,6 +14,3 @@ term u v k = raised (bend (at u) k) (bend (at v) k)
 
 abbrev pub invariant-loop-i : goal.invariant-loop-i
 invariant-loop-i l = (1 ≤ l.i) × (l.i ≤ length l.newer - 1) × (l.total ≡ sum l.i (term l.newer l.older))
-
-abbrev pub decreases-loop-i : goal.decreases-loop-i
-decreases-loop-i l = length l.newer - 1 - l.i
