@@ -1,4 +1,4 @@
--- The loop's invariant: the numbers below i are 0.
+-- An iteration of `clear` keeps the invariant, which at the end says that every number is 0.
 use mathlib.Core.Path.{refl, ◌∙◌}
 use native.Mathlib.Omega.{arith}
 use lib.IntN.{pos}
