@@ -4,7 +4,8 @@ use Prim.Native.Nat.{suc, ◌-◌, ◌≤◌}
 use native.Mathlib.Numerals.{add-one}
 use native.Mathlib.Omega.{arith}
 use lib.ListN.{length}
-use Rattle.integers.specs.Filled.{Filled, filled_none, filled_more, filled-all}
+use Rattle.integers.specs.Filled.{Filled, filled_none, filled_more}
+use Rattle.integers.proofs.Filled.{filled-all}
 use Rattle.model.specs.Frets.{fret_place, fret_places}
 use Rattle.fret_places.proofs.list.write_places.Statement.{statement}
 use Rattle.fret_places.proofs.list.write_places.Tie as tie

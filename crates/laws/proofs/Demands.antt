@@ -13,7 +13,6 @@ use Rattle.model.specs.Booking.{booked_rules, BookedResult, booked_step, bent_ru
 use Rattle.model.specs.Block.{block_rules}
 use Rattle.model.specs.Reading.{reading_rules}
 use Rattle.model.specs.declared.Setup.{Setup}
-use Rattle.promises.specs.Promises as promise
 use Rattle.promises.specs.Promises.{Demand1, Accepts, Demand2, NoContactPulls, OnlyAbove, Blocks, LongerSamples, Frames, Readings, Rounding, Refuses, Leaves}
 use Rattle.promises.specs.Energy.{Runs, Demand3, StepRuns}
 use Rattle.laws.specs.Refusals.{first-unique, by-table}
@@ -22,15 +21,15 @@ use Rattle.laws.specs.Accepted as Accepted
 use Rattle.laws.specs.Accepted.{setup-facts, start-accepted}
 use Rattle.laws.specs.Solved as Solved
 use Rattle.laws.specs.OnlyAbove as Above
-use Rattle.laws.specs.Run as Run
-use Rattle.laws.specs.Run.{run}
+use Rattle.laws.proofs.Run as Run
+use Rattle.laws.proofs.Run.{run}
 use Rattle.promises.specs.Book.{OneNumber, BookedCalls, EnergyBook}
 use Rattle.promises.specs.Frets.{FretRule, FretLists}
 use Rattle.promises.specs.Symmetry.{Symmetry}
 use Rattle.laws.specs.Symmetry as Symmetric
 use Rattle.laws.specs.Words as Words
 use Rattle.laws.specs.Booking as Booking
-use Rattle.laws.specs.BookedRun as BookedRun
+use Rattle.laws.proofs.BookedRun as BookedRun
 use Rattle.laws.specs.Frets as Frets
 use Rattle.laws.specs.Exact as Exact
 use Rattle.laws.specs.Block as Block

@@ -30,7 +30,7 @@ use Rattle.promises.specs.Promises.{PlaysNoPart, NonePulls}
 use Rattle.promises.specs.Energy.{Run}
 use Rattle.promises.specs.Book.{BookedRun, NeverFull}
 use Rattle.promises.specs.Frets.{IsFret, IsFretList}
-use Rattle.laws.specs.Demands.{no-contact-pulls, demand3, energy-book, booked-calls, fret-rule, fret-lists, longer-samples}
+use Rattle.laws.proofs.Demands.{no-contact-pulls, demand3, energy-book, booked-calls, fret-rule, fret-lists, longer-samples}
 
 -- ---- demand 3, all at once: the neck is laid with another setup than the one that plays; the second step, the first bend and the first slide are refused
 

@@ -17,7 +17,7 @@ use Rattle.model.specs.declared.Setup.{Setup}
 use Rattle.promises.specs.Promises.{Every}
 use Rattle.promises.specs.Symmetry.{NoContact, opposed, Mirrored}
 use Rattle.laws.specs.Loose.{every_call}
-use Rattle.laws.specs.Demands.{symmetry}
+use Rattle.laws.proofs.Demands.{symmetry}
 
 -- finger and neck are stiff: a depth of 1 has a gradient
 abbrev setup : Setup
