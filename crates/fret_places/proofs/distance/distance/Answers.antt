@@ -1,17 +1,13 @@
 -- `distance` meets its contract.
-use mathlib.Core.Path.{◌≡◌, refl, sym, ap, ap₂, ◌∙◌}
-use mathlib.Core.Bool.{Bool, true, false}
-use Prim.Native.Nat.{ℕ, ◌+◌, ◌-◌, ◌*◌, ◌/◌, ◌^◌, ◌≤◌, ◌<◌}
+use mathlib.Core.Path.{◌≡◌, sym, ap, ◌∙◌}
+use Prim.Native.Nat.{ℕ, ◌+◌, ◌-◌, ◌*◌, ◌/◌, ◌^◌}
 use native.Mathlib.Nat.{mul-one}
 use native.Mathlib.Omega.{arith}
 use borrow.Author.Tests.{leb-true, leb-false}
 use lib.Dec.{lit≤, leb}
 use lib.IntN.{pos}
 use lib.Signed.{le_z}
-use Rattle.model.specs.Wide.{value}
-use Rattle.promises.specs.Frets.{IsDistance}
 use Rattle.laws.specs.Frets.{one-reaches, all_past, distance_is, distance-unique}
-use Rattle.fret_places.proofs.distance.distance.Invariants.{Between}
 use Rattle.fret_places.proofs.distance.distance.Goals as goal
 use Rattle.fret_places.proofs.distance.distance.Goals.{After-reaches, In-loop-low}
 
@@ -73,4 +69,3 @@ overflow_mul-segments c = omega arith
 
 pub scaled_power-whole-requires : goal.scaled_power-whole-requires
 scaled_power-whole-requires c = (omega arith, lit≤ tt)
-

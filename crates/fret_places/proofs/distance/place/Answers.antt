@@ -1,7 +1,6 @@
 -- `place` meets its contract: the distance is at most N.
 use mathlib.Core.Path.{ap}
 use Prim.Native.Nat.{◌-◌}
-use native.Mathlib.Omega.{arith}
 use Rattle.model.specs.Frets.{fret_place}
 use Rattle.laws.specs.Frets.{distance_most}
 use Rattle.fret_places.proofs.distance.place.Goals as goal

@@ -1,6 +1,5 @@
 -- `reaches` meets its contract, as `at_most` and `scaled_power` meet theirs.
 use mathlib.Core.Path.{◌∙◌, ap}
-use borrow.Author.Rules.{rules}
 use lib.Signed.{le_z}
 use Rattle.model.specs.Wide.{value}
 use Rattle.fret_places.proofs.distance.reaches.Goals as goal

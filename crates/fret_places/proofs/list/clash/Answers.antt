@@ -1,12 +1,12 @@
 -- `clash` meets its contract.
-use mathlib.Core.Path.{◌≡◌, refl, sym, ap, ◌∙◌}
-use Prim.Native.Nat.{ℕ, suc, ◌-◌, ◌≤◌, ◌<◌}
+use mathlib.Core.Path.{◌≡◌, sym, ap, ◌∙◌}
+use Prim.Native.Nat.{ℕ, suc, ◌<◌}
 use native.Mathlib.Numerals.{add-one}
 use native.Mathlib.Omega.{arith}
 use lib.ListN.{length, get_or}
 use Rattle.integers.specs.Filled.{length-tabulate, get_d_tabulate}
 use Rattle.model.specs.Frets.{fret_place, fret_places}
-use Rattle.fret_places.specs.Clash.{Judged, none-judged, judged-more, all-judged}
+use Rattle.fret_places.specs.Clash.{none-judged, judged-more, all-judged}
 use Rattle.fret_places.proofs.list.clash.Goals as goal
 
 -- the list's length and its entries
@@ -37,4 +37,3 @@ overflow_add-k c = omega arith
 
 pub place-own-requires : goal.place-own-requires
 place-own-requires c = let k = c.before.before in (k.requires.0, k.requires.1, omega arith)
-

@@ -1,10 +1,8 @@
 -- `write_places` meets its contract.
 use mathlib.Core.Path.{refl, ap, ◌∙◌}
-use Prim.Native.Nat.{suc, ◌-◌, ◌≤◌}
 use native.Mathlib.Numerals.{add-one}
 use native.Mathlib.Omega.{arith}
-use lib.ListN.{length}
-use Rattle.integers.specs.Filled.{Filled, filled_none, filled_more, filled-all}
+use Rattle.integers.specs.Filled.{filled_none, filled_more, filled-all}
 use Rattle.model.specs.Frets.{fret_place, fret_places}
 use Rattle.fret_places.proofs.list.write_places.Goals as goal
 

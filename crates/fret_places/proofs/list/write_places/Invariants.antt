@@ -1,11 +1,8 @@
 -- The loop's invariant: the places of the first k frets are written.
-use mathlib.Core.Path.{refl, ap, ◌∙◌}
-use Prim.Native.Nat.{suc, ◌-◌, ◌≤◌}
-use native.Mathlib.Numerals.{add-one}
-use native.Mathlib.Omega.{arith}
+use Prim.Native.Nat.{suc, ◌≤◌}
 use lib.ListN.{length}
-use Rattle.integers.specs.Filled.{Filled, filled_none, filled_more, filled-all}
-use Rattle.model.specs.Frets.{fret_place, fret_places}
+use Rattle.integers.specs.Filled.{Filled}
+use Rattle.model.specs.Frets.{fret_place}
 use Rattle.fret_places.proofs.list.write_places.Given as goal
 
 abbrev pub invariant-loop-k : goal.invariant-loop-k

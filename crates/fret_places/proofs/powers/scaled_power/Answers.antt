@@ -1,9 +1,9 @@
 -- `scaled_power` meets its contract: each product is the power so far, and none passes 2^120.
 use mathlib.Core.Path.{◌≡◌, ◌∙◌, ap, ap₂}
-use Prim.Native.Nat.{ℕ, ◌*◌, ◌^◌, ◌≤◌}
+use Prim.Native.Nat.{ℕ, ◌*◌, ◌^◌}
 use native.Mathlib.Nat.{zero-add}
 use native.Mathlib.Omega.{arith}
-use lib.IntN.{ℤ, pos, ◌*ℤ◌}
+use lib.IntN.{pos, ◌*ℤ◌}
 use Rattle.integers.specs.Size.{natural, wide}
 use Rattle.model.specs.Wide.{value}
 use Rattle.fret_places.specs.Powers.{cube, twelfth, shifted, square-most, cube-most, sixth-most, ninth-most, twelfth-most, scaled-most}
