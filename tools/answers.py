@@ -14,7 +14,7 @@ import re
 import sys
 
 IDENT = r"[^\s(){}.;,@\"«»:`\[\]]+"
-PLAIN = {"search rules", "tt", "search needs"}
+PLAIN = {"search rules", "tt", "search needs", "lit< tt"}
 
 
 def norm(name):
@@ -64,6 +64,109 @@ def blocks_of(text):
         cur.append(line)
     blocks.append("\n".join(cur))
     return [b for b in blocks if b.strip()]
+
+
+class Code:
+    """The goals of signed code (crate integers, Code): one for each operation, in the order in which the code works them out."""
+
+    LEVELS = {"⊞": 6, "⊟": 6, "⊠": 7, "⊘": 7, "⊜": 7, "÷": 7, "≫": 7}
+
+    def __init__(self, definitions):
+        self.definitions = definitions
+
+    def parsed(self, text):
+        self.tokens = re.findall(r"[()]|♯|[⊞⊟⊠⊘⊜÷≫]|[^\s()♯]+", text)
+        self.at = 0
+        return self.operation(6)
+
+    def peek(self):
+        return self.tokens[self.at] if self.at < len(self.tokens) else None
+
+    def next(self):
+        self.at += 1
+        return self.tokens[self.at - 1]
+
+    def operation(self, level):
+        if level > 7:
+            return self.atom()
+        left = self.operation(level + 1)
+        while self.LEVELS.get(self.peek()) == level:
+            op = self.next()
+            left = (op, left, self.operation(level + 1) if op not in "÷≫" else ("number", self.number()))
+        return left
+
+    def number(self):
+        if self.peek() != "(":
+            return self.next()
+        depth, out = 0, []
+        while True:
+            token = self.next()
+            depth += (token == "(") - (token == ")")
+            out.append(token)
+            if not depth:
+                return " ".join(out).replace("( ", "(").replace(" )", ")")
+
+    def atom(self):
+        token = self.next()
+        if token == "(":
+            inside = self.operation(6)
+            self.next()
+            return inside
+        if token == "♯":
+            return ("lit", "♯ " + self.number())
+        if token in ("var", "loc", "nat"):
+            return (token, f"{token} {self.number()}")
+        if token == "lit":
+            return ("lit", f"lit {self.number()}")
+        if token == "cast":
+            return ("cast", self.next(), self.atom())
+        if token == "done":
+            return ("done", self.atom())
+        return ("name", token)
+
+    def text(self, e, inner=False):
+        kind = e[0]
+        if kind in ("lit", "var", "loc", "nat"):
+            return f"({e[1]})" if inner and kind != "lit" and False else e[1]
+        if kind in ("name", "number"):
+            return e[1]
+        if kind == "cast":
+            out = f"cast {e[1]} {self.wrapped(e[2], 9)}"
+        elif kind == "done":
+            out = f"done {self.wrapped(e[1], 9)}"
+        else:
+            level = self.LEVELS[kind]
+            out = f"{self.wrapped(e[1], level)} {kind} {self.wrapped(e[2], level + 1)}"
+        return out
+
+    def wrapped(self, e, level):
+        own = self.LEVELS.get(e[0], 8 if e[0] in ("cast", "done") else 10)
+        if level == 9 and e[0] in ("var", "loc", "nat", "lit"):
+            own = 8
+        return f"({self.text(e)})" if own < level else self.text(e)
+
+    def goals(self, e, width, env):
+        kind = e[0]
+        if kind == "name":
+            whole = self.goals(Code(self.definitions).parsed(self.definitions[e[1]]), width, env)
+            if whole and not whole[-1].startswith("("):
+                whole[-1] = f"fits {env} {width} {e[1]} tt"
+            return whole
+        at = self.wrapped(e, 9) if kind != "name" else e[1]
+        own = f"fits {env} {width} {at if at.startswith('(') else '(' + at + ')'} tt"
+        if kind == "nat":
+            return [own]
+        if kind in ("var", "loc", "lit"):
+            return []
+        if kind == "cast":
+            return self.goals(e[2], e[1], env) + [own]
+        if kind == "done":
+            return []
+        if kind == "≫":
+            return self.goals(e[1], width, env)
+        if kind == "÷":
+            return self.goals(e[1], width, env) + [f"(lit< tt, {own})"]
+        return self.goals(e[1], width, env) + self.goals(e[2], width, env) + [own]
 
 
 def norm_spec(name):
@@ -126,9 +229,15 @@ class Turned:
             return head + "." + self.fields.get(norm(name), name)
 
         text = re.sub(rf"\.({IDENT})\.(?:new|last)((?:\.1)*)\.0(?![\w-])", self.written, text)
-        text = re.sub(rf"((?:(?<![\w.'-])[a-z]'?|\)|\.before))\.(?!before\b)({IDENT})", field, text)
-        text = re.sub(r"(?<=\.before)\.fits\.", ".ranges.", text)
-        text = re.sub(r"(?<![\w.'-])([a-z])\.fits\.", r"\1.ranges.", text)
+        stepped = set(re.findall(r"abbrev (\S+) : (?:goal\.|tie\.|lts\.)?(?:Start|In-|After-|At-|Then-|Else-|Joined-)", text)) | set(re.findall(r"let (\S+) = [^\s.]+(?:\.before)+ in", text))
+        steps = "|".join(["[a-z]'?"] + [re.escape(it) for it in sorted(stepped)])
+        text = re.sub(rf"((?:(?<![\w.'-])(?:{steps})|\)|\.before))\.(?!before\b)({IDENT})", field, text)
+        text = re.sub(rf"((?:(?<![\w.'-])(?:{steps})|\)|\.before))\.fits\.", r"\1.ranges.", text)
+        for old, new in self.fields.items():
+            text = re.sub(rf"\.{re.escape(new)}\.ok(?![\w-])", f".{new}.type_inv", text)
+            text = re.sub(rf"\.{re.escape(new)}\.inv(?![\w-])", f".{new}.invariant", text)
+            text = re.sub(rf"\.{re.escape(new)}\.taken(?![\w-])", f".{new}.true", text)
+            text = re.sub(rf"\.{re.escape(new)}\.left(?![\w-])", f".{new}.false", text) if new.startswith("if-") or new.endswith("-test") else text
         for old, new in ((r"\.pre(?![\w-])", ".requires"), (r"\.good(?![\w-])", ".well_formed"), (r"\.type-inv(?![\w-])", ".type_inv")):
             text = re.sub(old, new, text)
         return re.sub(r"(?:\.before)+(?=\.(?!before\b))", "", text)
@@ -184,6 +293,7 @@ class Turned:
             self.left.append(f"{kind}-{loop} takes {len(params)} and not {len(fields)}")
         given = dict(zip(params, fields))
         body = re.sub(rf"(?<![\w.'₀-])({IDENT})", lambda m: f"l.{given[m[1]]}" if m[1] in given else m[1], body)
+        body = re.sub(r"to_z w\d+ (l\.(?:initial\.)?[\w-]+)", r"\1", body)
         comment = block[: m.start()]
         unfolding = "".join(re.findall(r"^unfolding .*\n", comment, re.M))
         return f"abbrev pub {kind}-{new} : goal.{kind}-{new}\n{unfolding}{kind}-{new} l ={body}"
@@ -214,6 +324,56 @@ class Turned:
             return f"pub {name} : goal.{name}\n{name} c = {inner} c"
         return f"pub {name} : goal.{name}\n{name} c = ({inner}) c"
 
+    def arguments_back(self, text):
+        """The steps that the answers among tie.spec's arguments pass on."""
+        needs = [new for _, new in self.names["needs"]]
+        at = text.index("tie.spec") + len("tie.spec")
+        depth, begin, spans = 0, None, []
+        for i in range(at, len(text) + 1):
+            ch = text[i] if i < len(text) else ")"
+            depth += ch in "({["
+            if depth == 0 and not ch.isspace() and ch not in ")]}" and begin is None:
+                begin = i
+            if ch in "({[" and depth == 1 and begin is None:
+                begin = i
+            depth -= ch in ")}]"
+            if begin is not None and (depth < 0 or depth == 0 and (ch.isspace())):
+                spans.append((begin, i))
+                begin = None
+            elif begin is not None and depth == 0 and ch in ")]}":
+                spans.append((begin, i + 1))
+                begin = None
+            if depth < 0:
+                break
+        spans = [s for s in spans if not re.match(r"(invariant|decreases)-", text[s[0] : s[1]])]
+        if len(spans) != len(needs):
+            self.left.append(f"{len(spans)} answers for {len(needs)} goals: {' '.join(needs)}")
+            return text
+        for (a, b), need in reversed(list(zip(spans, needs))):
+            arg, place = text[a:b], self.asked.get(need)
+            m = re.match(r"\(λ ([\w']+)", arg)
+            if m and place in self.parents:
+                arg = re.sub(rf"(?<![\w.'-]){m[1]}((?:\.before)*)(?![\w.'-])(?! κs\.)", lambda m: m[0] + ".before" * (self.chain(place, m[1].count(".before")) - m[1].count(".before")), arg[m.end():])
+                text = text[:a] + m[0] + arg + text[b:]
+        return text
+
+    def given(self, call, code):
+        """The answers that an expression gives tie.spec, in order."""
+        parts = split_args(call)
+        head, args = parts[0], parts[1:]
+        if head.startswith("("):
+            return self.given(head[1:-1], code) + args
+        if head == "tie.spec":
+            return args
+        if head == "answer":
+            env, width, what, _, inner = args[:5]
+            m = re.fullmatch(r"\(λ (\w+)\. (.*)\)", env, re.S)
+            at = re.sub(rf"(?<![\w.'-]){m[1]}(?![\w'-])", "c", m[2]) if m else f"{env} c"
+            at = at if re.fullmatch(r"[\w.]+", at) else f"({at})"
+            goals = code.goals(code.parsed(what), width, at)
+            return self.given(inner, code) + [f"(λ c. {it})" for it in goals] + args[5:]
+        raise ValueError(f"an expression of tie.spec: {head}")
+
     def walk(self, text):
         """The proof as a Proof.antt, under today's names, where its lemmas take steps as the code has them."""
         self.used, self.seen = set(), set()
@@ -226,8 +386,6 @@ class Turned:
         for (old, new), _ in self.names["loops"]:
             text = re.sub(rf"(?<![\w'-])(invariant|decreases)-{re.escape(old)}(?![\w'-])", rf"\1-{new}", text)
         text = re.sub(r"([\w-]+)-spec(?= [:=]|$)", lambda m: norm_spec(m[1]), text, flags=re.M)
-        text = re.sub(r"(?m)^([\w'-]+ [\w']+) κs(?= =)", r"\1", text)
-        text = re.sub(r"λ ([\w']+) κs\.", r"λ \1.", text)
         head = {}
         out = []
         place = None
@@ -249,8 +407,9 @@ class Turned:
                 if at in self.parents:
                     line = re.sub(rf"(?<![\w.'-]){var}((?:\.before)*)(?![\w.'-])(?! :)(?! =)", lambda m: var + ".before" * self.chain(at, m[1].count(".before")), line)
             out.append(line)
+        text = self.arguments_back("\n".join(out))
         with open(self.path, "w", encoding="utf-8") as f:
-            f.write("\n".join(out))
+            f.write(text)
         self.left.append("stays a Proof.antt")
         return self.left
 
@@ -261,7 +420,7 @@ class Turned:
         head, spec, inv, rest = [], None, [], []
         for b in blocks:
             code = re.sub(r"(?m)^\s*--.*\n?", "", b)
-            if re.match(r"pub [\w-]+-spec :", code):
+            if re.match(r"pub [\w-]+[-_]spec :", code):
                 spec = code
             elif code.startswith("use ") or not code.strip():
                 head.append(b)
@@ -271,14 +430,15 @@ class Turned:
                 pass
             else:
                 rest.append(b)
-        call = spec[spec.index("tie.spec") :]
-        start = spec.rindex("(", 0, spec.index("tie.spec")) if "(tie.spec" in re.sub(r"\(\s+", "(", spec) else None
-        args = split_args(spec[start + 1 : closing(spec, start)] if start is not None else call)[1:]
+        definitions = dict(re.findall(rf"(?m)^\s*abbrev (?:pub )?({IDENT}) : Code\n\s*\1 = (.*)$", text))
+        args = self.given(spec[spec.index("tie.close") + len("tie.close") :].strip(), Code(definitions))
         args = [a for a in args if not re.match(r"(invariant|decreases)-", a)]
         uses = "\n".join(head)
         uses = re.sub(r"(?m)^use \S+\.Statement\.\{statement\}\n?", "", uses + "\n")
         uses = re.sub(r"(?m)^use \S+\.(Tie|Lts|Reads) as \S+\n?", "", uses)
         body = "\n\n".join(b.strip("\n") for b in rest)
+        if not re.search(r"(?<![\w.'-])answer(?![\w'-])", body):
+            uses = re.sub(r"(Rattle\.integers\.specs\.Machine\.\{[^}]*?)(?<![\w-])answer(?![\w-])", lambda m: m[1] + ("fits" if not re.search(r"[{ ]fits[,}]", uses) else "answer"), uses)
         needs = [new for _, new in self.names["needs"]]
         if len(args) != len(needs):
             self.left.append(f"{len(args)} answers for {len(needs)} goals: {' | '.join(a if len(a) < 30 else a[:30] + '..' for a in args)} for {' '.join(needs)}")

@@ -33,8 +33,8 @@ fn block_refusal(
     forces: &[i32],
     samples: &[f32],
 ) -> u32
-    ensures { (turn : ℕ) → result ≡ first_of (block_rules setup (record { heights = heights.entry.now; stiffness = stiffness.now })
-        (record { first = first.entry.now; second = second.now; contact = contact.now; turn = turn; finger = finger })
+    ensures { (turn : ℕ) → result ≡ first_of (block_rules setup (record { heights = heights.now; stiffness = stiffness.now })
+        (record { first = first.now; second = second.now; contact = contact.now; turn = turn; finger = finger })
         forces.now samples.now) }
 {
     let number = buffers_refusal(setup, heights, stiffness, first, second, contact);
@@ -61,9 +61,9 @@ pub fn play_block(
     forces: &[i32],
     samples: &mut [f32],
 ) -> BlockAnswer
-    ensures { block_result result first.exit.now second.new contact.new samples.new ≡ block setup
-        (record { heights = heights.entry.now; stiffness = stiffness.now })
-        (record { first = first.entry.now; second = second.old; contact = contact.old; turn = turn; finger = finger })
+    ensures { block_result result first.new second.new contact.new samples.new ≡ block setup
+        (record { heights = heights.now; stiffness = stiffness.now })
+        (record { first = first.old; second = second.old; contact = contact.old; turn = turn; finger = finger })
         forces.now samples.old }
 {
     let refusal = block_refusal(

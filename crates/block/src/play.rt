@@ -24,11 +24,11 @@ pub fn play(
     samples: &mut [f32],
 ) -> BlockAnswer
     requires { Ready setup (record { heights = heights.now; stiffness = stiffness.now })
-        (state_of (record { first = first.now; second = second.old; contact = contact.old; turn = turn; finger = finger }))
+        (state_of (record { first = first.old; second = second.old; contact = contact.old; turn = turn; finger = finger }))
         × (length forces.now ≤ length samples.old) }
-    ensures { block_result result first.exit.now second.new contact.new samples.new ≡ Blocks.play setup
-        (record { heights = heights.entry.now; stiffness = stiffness.now })
-        (record { first = first.entry.now; second = second.old; contact = contact.old; turn = turn; finger = finger })
+    ensures { block_result result first.new second.new contact.new samples.new ≡ Blocks.play setup
+        (record { heights = heights.now; stiffness = stiffness.now })
+        (record { first = first.old; second = second.old; contact = contact.old; turn = turn; finger = finger })
         (pairs forces.now) samples.old }
 {
     let steps = forces.len() / 2;

@@ -24,7 +24,7 @@ pub fn bend_booked(
     book: Book,
 ) -> BentAnswer
     ensures { bent_result book result ≡ booked_bend setup
-        (record { first = first.entry.now; second = second.now; contact = contact.now; turn = turn; finger = finger }) (columns book) tension }
+        (record { first = first.now; second = second.now; contact = contact.now; turn = turn; finger = finger }) (columns book) tension }
 {
     if turn == 0 {
         bend_state(setup, tension, first, second, contact, finger, book)

@@ -24,7 +24,7 @@ pub fn bend_state(
     finger: Finger,
     book: Book,
 ) -> BentAnswer
-    ensures { bent_result book result ≡ bend_on setup (record { newer = newer.entry.now; older = older.now; contact = contact.now; finger = finger }) (columns book) tension }
+    ensures { bent_result book result ≡ bend_on setup (record { newer = newer.now; older = older.now; contact = contact.now; finger = finger }) (columns book) tension }
 {
     let next = with_tension(setup, tension);
     let refusal = setup_refusal(next);

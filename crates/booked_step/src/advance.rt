@@ -31,8 +31,8 @@ pub fn booked_advance(
     requires { Ready setup (record { heights = heights.now; stiffness = stiffness.now }) (record { newer = newer.now; older = older.old; contact = contact.old; finger = finger })
         × T (all force_ok (pluck ∷ force ∷ [])) × Passing book × (book.count < 4294967295) }
     ensures { booked_advanced_result book result older.new contact.new ≡ booked_advance turn setup
-        (record { heights = heights.entry.now; stiffness = stiffness.now })
-        (record { newer = newer.entry.now; older = older.old; contact = contact.old; finger = finger })
+        (record { heights = heights.now; stiffness = stiffness.now })
+        (record { newer = newer.now; older = older.old; contact = contact.old; finger = finger })
         (record { pluck = pluck; finger = force }) (columns book) }
 {
     let points = older.len();

@@ -33,7 +33,7 @@ pub fn book_step(
     requires { Held setup (record { newer = string.now; older = newer.now; contact = contact.now; finger = finger }) × Strings string.now kept.now
         × (value before within 2 ^ 65) × (released within 2 ^ 60) × T (force_ok pluck) × T (force_ok force) × T (displacement_ok height) × Passing book × (book.count < 4294967295) }
     ensures { columns result ≡ with_parts setup (columns book) (record { stored = value before; released = released; older = kept.now; height = height })
-        (record { newer = string.now; older = newer.entry.now; contact = contact.now; finger = finger }) (record { pluck = pluck; finger = force }) }
+        (record { newer = string.now; older = newer.now; contact = contact.now; finger = finger }) (record { pluck = pluck; finger = force }) }
 {
     let after = stored_energy(setup, string, newer, contact, finger);
     let loss = step_loss(setup, string, kept, released);

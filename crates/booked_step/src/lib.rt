@@ -32,9 +32,9 @@ pub fn step_booked(
     force: i32,
     book: Book,
 ) -> BookedAnswer
-    ensures { booked_result turn finger book result first.exit.now second.new contact.new ≡ booked_step setup
-        (record { heights = heights.entry.now; stiffness = stiffness.now })
-        (record { first = first.entry.now; second = second.old; contact = contact.old; turn = turn; finger = finger })
+    ensures { booked_result turn finger book result first.new second.new contact.new ≡ booked_step setup
+        (record { heights = heights.now; stiffness = stiffness.now })
+        (record { first = first.old; second = second.old; contact = contact.old; turn = turn; finger = finger })
         (columns book) (record { pluck = pluck; finger = force }) }
 {
     let refusal = buffers_refusal(setup, heights, stiffness, first, second, contact);

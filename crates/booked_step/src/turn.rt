@@ -26,11 +26,11 @@ pub fn booked_ready(
     book: Book,
 ) -> BookedAnswer
     requires { Ready setup (record { heights = heights.now; stiffness = stiffness.now })
-        (state_of (record { first = first.now; second = second.old; contact = contact.old; turn = turn; finger = finger }))
+        (state_of (record { first = first.old; second = second.old; contact = contact.old; turn = turn; finger = finger }))
         × T (all force_ok (pluck ∷ force ∷ [])) × Passed (count_rule (columns book) ∷ columns_rule (columns book) ∷ []) }
-    ensures { booked_result turn finger book result first.exit.now second.new contact.new ≡ booked_step setup
-        (record { heights = heights.entry.now; stiffness = stiffness.now })
-        (record { first = first.entry.now; second = second.old; contact = contact.old; turn = turn; finger = finger })
+    ensures { booked_result turn finger book result first.new second.new contact.new ≡ booked_step setup
+        (record { heights = heights.now; stiffness = stiffness.now })
+        (record { first = first.old; second = second.old; contact = contact.old; turn = turn; finger = finger })
         (columns book) (record { pluck = pluck; finger = force }) }
 {
     if turn == 0 {

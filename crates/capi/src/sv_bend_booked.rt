@@ -22,7 +22,7 @@ pub extern "C" fn sv_bend_booked(
     book: Book,
 ) -> BentRow
     ensures { bent_view result ≡ bent_row setup (booked_bend (setup_of setup)
-        (record { first = first.entry.now; second = second.now; contact = contact.now; turn = turn; finger = finger }) (columns book) tension) }
+        (record { first = first.now; second = second.now; contact = contact.now; turn = turn; finger = finger }) (columns book) tension) }
 {
     let answer = bend_booked(
         setup_of(setup),

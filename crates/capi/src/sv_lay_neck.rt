@@ -21,7 +21,7 @@ pub extern "C" fn sv_lay_neck(
     stiffness: &mut [u16],
 ) -> u32
     ensures { record { refusal = result; heights = heights.new; stiffness = stiffness.new } ≡ neck_call (lay (setup_of setup) (record {
-      board = board.entry.now;
+      board = board.now;
       board_stiffness = board_stiffness;
       frets = frets.now;
       tip = tip;

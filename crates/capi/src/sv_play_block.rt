@@ -22,9 +22,9 @@ pub extern "C" fn sv_play_block(
     forces: &[i32],
     samples: &mut [f32],
 ) -> BlockAnswer
-    ensures { block_result result first.exit.now second.new contact.new samples.new ≡ block (setup_of setup)
-        (record { heights = heights.entry.now; stiffness = stiffness.now })
-        (record { first = first.entry.now; second = second.old; contact = contact.old; turn = turn; finger = finger })
+    ensures { block_result result first.new second.new contact.new samples.new ≡ block (setup_of setup)
+        (record { heights = heights.now; stiffness = stiffness.now })
+        (record { first = first.old; second = second.old; contact = contact.old; turn = turn; finger = finger })
         forces.now samples.old }
 {
     play_block(

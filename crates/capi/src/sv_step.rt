@@ -23,9 +23,9 @@ pub extern "C" fn sv_step(
     pluck: i32,
     finger_force: i32,
 ) -> StepRow
-    ensures { record { row = result; first = first.exit.now; second = second.new; contact = contact.new } ≡ step_call (Steps.step (setup_of setup)
-        (record { heights = heights.entry.now; stiffness = stiffness.now })
-        (record { first = first.entry.now; second = second.old; contact = contact.old; turn = turn; finger = finger })
+    ensures { record { row = result; first = first.new; second = second.new; contact = contact.new } ≡ step_call (Steps.step (setup_of setup)
+        (record { heights = heights.now; stiffness = stiffness.now })
+        (record { first = first.old; second = second.old; contact = contact.old; turn = turn; finger = finger })
         (record { pluck = pluck; finger = finger_force })) }
 {
     let answer = step(

@@ -25,9 +25,9 @@ pub extern "C" fn sv_step_booked(
     finger_force: i32,
     book: Book,
 ) -> BookedRow
-    ensures { record { row = booked_view result; first = first.exit.now; second = second.new; contact = contact.new } ≡ booked_call (booked_step (setup_of setup)
-        (record { heights = heights.entry.now; stiffness = stiffness.now })
-        (record { first = first.entry.now; second = second.old; contact = contact.old; turn = turn; finger = finger })
+    ensures { record { row = booked_view result; first = first.new; second = second.new; contact = contact.new } ≡ booked_call (booked_step (setup_of setup)
+        (record { heights = heights.now; stiffness = stiffness.now })
+        (record { first = first.old; second = second.old; contact = contact.old; turn = turn; finger = finger })
         (columns book) (record { pluck = pluck; finger = finger_force })) }
 {
     let answer = step_booked(

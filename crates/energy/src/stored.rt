@@ -53,7 +53,7 @@ pub fn stored_energy(
     finger: Finger,
 ) -> Wide
     requires { Held setup (record { newer = newer.now; older = older.now; contact = contact.now; finger = finger }) }
-    ensures { value result ≡ stored_energy setup (record { newer = newer.entry.now; older = older.now; contact = contact.now; finger = finger }) }
+    ensures { value result ≡ stored_energy setup (record { newer = newer.now; older = older.now; contact = contact.now; finger = finger }) }
 {
     let change = changes(newer, older);
     let tension = rises(newer, older);

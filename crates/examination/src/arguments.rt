@@ -21,8 +21,8 @@ pub fn buffers_refusal(
     second: &[i32],
     contact: &[i32],
 ) -> u32
-    ensures { (turn : ℕ) (finger : Fingers.Finger) → result ≡ first_of (buffer_rows setup (record { heights = heights.entry.now; stiffness = stiffness.now })
-        (state_of (record { first = first.entry.now; second = second.now; contact = contact.now; turn = turn; finger = finger }))) }
+    ensures { (turn : ℕ) (finger : Fingers.Finger) → result ≡ first_of (buffer_rows setup (record { heights = heights.now; stiffness = stiffness.now })
+        (state_of (record { first = first.now; second = second.now; contact = contact.now; turn = turn; finger = finger }))) }
 {
     let refusal = setup_refusal(setup);
     if refusal != 0 {
@@ -50,7 +50,7 @@ pub fn state_refusal(
     finger: Finger,
 ) -> u32
     ensures { (turn : ℕ) → result ≡ first_of (state_rows heights.now
-        (state_of (record { first = first.entry.now; second = second.now; contact = contact.now; turn = turn; finger = finger }))) }
+        (state_of (record { first = first.now; second = second.now; contact = contact.now; turn = turn; finger = finger }))) }
 {
     if !heights_ok(heights) {
         return 7;

@@ -10,7 +10,7 @@ use ranges::wide_numbers::{new_contact_ok, new_displacement_ok};
 
 // 11: the displacements, finger heights and contact variables that are passed in.
 pub fn state_ok(newer: &[i32], older: &[i32], contact: &[i32], finger: Finger) -> bool
-    ensures { result ≡ state_ok (record { newer = newer.entry.now; older = older.now; contact = contact.now; finger = finger }) }
+    ensures { result ≡ state_ok (record { newer = newer.now; older = older.now; contact = contact.now; finger = finger }) }
 {
     let height = displacement_ok(finger.newer);
     let older_height = displacement_ok(finger.older);

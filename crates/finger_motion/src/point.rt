@@ -68,8 +68,8 @@ pub fn settle_finger(
         × (weights.now ≡ placed (Weights.weighted setup newer.now older.now))
         × FingerRanges finger × T (force_ok force) }
     ensures { result ≡ at_finger setup
-        (record { newer = newer.entry.now; older = older.now; contact = kept_contacts heights.now newer.entry.now contact.now; finger = kept_finger setup newer.entry.now finger })
-        (record { points = gradients_in (points setup) gradients.now; finger = gradient (K setup) (finger_depth setup newer.entry.now finger) })
+        (record { newer = newer.now; older = older.now; contact = kept_contacts heights.now newer.now contact.now; finger = kept_finger setup newer.now finger })
+        (record { points = gradients_in (points setup) gradients.now; finger = gradient (K setup) (finger_depth setup newer.now finger) })
         (record { pluck = pluck; finger = force }) }
 {
     let place = setup.finger.place as usize;

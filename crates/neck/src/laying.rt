@@ -29,8 +29,8 @@ pub fn write_neck(
 )
     requires { (2 ≤ N setup)
         × (length board.now ≡ points setup) × (length heights.old ≡ points setup) × (length stiffness.old ≡ points setup) }
-    ensures { record { heights = heights.exit.now; stiffness = stiffness.new } ≡ laid setup (record {
-      board = board.entry.now;
+    ensures { record { heights = heights.new; stiffness = stiffness.new } ≡ laid setup (record {
+      board = board.now;
       board_stiffness = board_stiffness;
       frets = frets.now;
       tip = tip;

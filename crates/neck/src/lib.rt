@@ -28,7 +28,7 @@ pub fn lay_neck(
     stiffness: &mut [u16],
 ) -> NeckAnswer
     ensures { neck_result result heights.new stiffness.new ≡ lay setup (record {
-      board = board.entry.now;
+      board = board.now;
       board_stiffness = board_stiffness;
       frets = frets.now;
       tip = tip;

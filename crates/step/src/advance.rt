@@ -26,8 +26,8 @@ pub fn advance(
 ) -> StepAnswer
     requires { Ready setup (record { heights = heights.now; stiffness = stiffness.now }) (record { newer = newer.now; older = older.old; contact = contact.old; finger = finger }) }
     ensures { advanced_result result older.new contact.new ≡ Steps.advance turn setup
-        (record { heights = heights.entry.now; stiffness = stiffness.now })
-        (record { newer = newer.entry.now; older = older.old; contact = contact.old; finger = finger })
+        (record { heights = heights.now; stiffness = stiffness.now })
+        (record { newer = newer.now; older = older.old; contact = contact.old; finger = finger })
         (record { pluck = pluck; finger = force }) }
 {
     if !forces_ok(pluck, force) {

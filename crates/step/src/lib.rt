@@ -29,9 +29,9 @@ pub fn step(
     pluck: i32,
     force: i32,
 ) -> StepAnswer
-    ensures { step_result turn finger result first.exit.now second.new contact.new ≡ Steps.step setup
-        (record { heights = heights.entry.now; stiffness = stiffness.now })
-        (record { first = first.entry.now; second = second.old; contact = contact.old; turn = turn; finger = finger })
+    ensures { step_result turn finger result first.new second.new contact.new ≡ Steps.step setup
+        (record { heights = heights.now; stiffness = stiffness.now })
+        (record { first = first.old; second = second.old; contact = contact.old; turn = turn; finger = finger })
         (record { pluck = pluck; finger = force }) }
 {
     let refusal = buffers_refusal(setup, heights, stiffness, first, second, contact);

@@ -22,10 +22,10 @@ pub fn step_ready(
     force: i32,
 ) -> StepAnswer
     requires { Ready setup (record { heights = heights.now; stiffness = stiffness.now })
-        (state_of (record { first = first.now; second = second.old; contact = contact.old; turn = turn; finger = finger })) }
-    ensures { step_result turn finger result first.exit.now second.new contact.new ≡ Steps.step setup
-        (record { heights = heights.entry.now; stiffness = stiffness.now })
-        (record { first = first.entry.now; second = second.old; contact = contact.old; turn = turn; finger = finger })
+        (state_of (record { first = first.old; second = second.old; contact = contact.old; turn = turn; finger = finger })) }
+    ensures { step_result turn finger result first.new second.new contact.new ≡ Steps.step setup
+        (record { heights = heights.now; stiffness = stiffness.now })
+        (record { first = first.old; second = second.old; contact = contact.old; turn = turn; finger = finger })
         (record { pluck = pluck; finger = force }) }
 {
     if turn == 0 {

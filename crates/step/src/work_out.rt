@@ -35,12 +35,12 @@ pub fn work_out(
         × (length string.old ≡ 127) × (length contacts.old ≡ 127) }
     ensures { (length string.new ≡ 127) × (length contacts.new ≡ 127) × (record {
       newer = take (points setup) string.new;
-      older = newer.entry.now;
+      older = newer.now;
       contact = take (points setup) contacts.new;
       finger = record { newer = result.height; older = finger.newer; contact = result.contact };
     } ≡ next_state (worked_step setup
-        (record { heights = heights.entry.now; stiffness = stiffness.now })
-        (record { newer = newer.entry.now; older = older.now; contact = contact.now; finger = finger })
+        (record { heights = heights.now; stiffness = stiffness.now })
+        (record { newer = newer.now; older = older.now; contact = contact.now; finger = finger })
         (record { pluck = pluck; finger = force }))) }
 {
     let mut gradients = [0u8; MOST_POINTS];

@@ -36,15 +36,15 @@ module _ (d : After-contact_kept-arg-3-1) where
   a = d.before.before.before
 
   height_is : to_z w32 (of_z w32 (get_or (heights a) a.args.i (pos 0))) ≡ get_or (heights a) a.args.i (pos 0)
-  height_is = to_z-of_z (sfits_of d.contact_kept-arg-1.given)
+  height_is = to_z-of_z {w = w32} (sfits_of d.contact_kept-arg-1.given)
 
   own_is : to_z w32 (of_z w32 (get_or (newer a) a.args.i (pos 0))) ≡ get_or (newer a) a.args.i (pos 0)
-  own_is = to_z-of_z (sfits_of d.contact_kept-arg-2-1.given)
+  own_is = to_z-of_z {w = w32} (sfits_of d.contact_kept-arg-2-1.given)
 
   variable_is : to_z w32 (of_z w32 (variable a)) ≡ variable a
-  variable_is = to_z-of_z (sfits_of d.contact_kept-arg-3-1.given)
+  variable_is = to_z-of_z {w = w32} (sfits_of d.contact_kept-arg-3-1.given)
 
 pub returns : goal.returns
 returns c =
     let d = c.before in
-    to_z-of_z (record { sfits = c.contact_kept.type_inv }) ∙ c.contact_kept.ensures ∙ ap₂ kept (ap₂ ◌-ℤ◌ (height_is d) (own_is d)) (variable_is d) ∙ sym (kept_is (a d))
+    to_z-of_z {w = w32} (record { sfits = c.contact_kept.type_inv }) ∙ c.contact_kept.ensures ∙ ap₂ kept (ap₂ ◌-ℤ◌ (height_is d) (own_is d)) (variable_is d) ∙ sym (kept_is (a d))

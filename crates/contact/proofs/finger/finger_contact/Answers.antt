@@ -6,7 +6,7 @@ use native.Mathlib.Omega.{arith}
 use borrow.Author.Rules.{rules, sfits_of}
 use lib.IntN.{ℤ, pos, ◌-ℤ◌}
 use lib.ListN.{get_or}
-use mir.Syntax.{w32}
+use mir.Syntax.{w32, w64}
 use mir.Facts.{to_z-of_z}
 use Rattle.integers.specs.Machine.{Code, var, ◌⊟◌, Within, ∅, ◌▹◌, fits, result}
 use Rattle.model.specs.Differences.{at}
@@ -44,9 +44,9 @@ returns c =
     let a = d.before.before.before.before in
     let place = ap (λ z. z -ℤ a.args.finger.newer) (own_at a) in
     ap₂ (λ (g v : ℤ). record { gradient = g; variable = v })
-    (to_z-of_z (record { sfits = c.gradient-gradient.type_inv }) ∙ c.gradient-gradient.ensures ∙ ap (gradient (K a.args.setup)) (result (ρ a) w32 depth tt ∙ place))
-    (to_z-of_z (record { sfits = c.contact_kept-variable.type_inv }) ∙ c.contact_kept-variable.ensures
-    ∙ ap₂ kept (ap₂ ◌-ℤ◌ (result (ρ a) w32 (var 0) tt) (result (ρ a) w32 (var 1) tt) ∙ place) (to_z-of_z (sfits_of d.struct_told-2-1.given.1.1.0.1)))
+    (to_z-of_z {w = w64} (record { sfits = c.gradient-gradient.type_inv }) ∙ c.gradient-gradient.ensures ∙ ap (gradient (K a.args.setup)) (result (ρ a) w32 depth tt ∙ place))
+    (to_z-of_z {w = w32} (record { sfits = c.contact_kept-variable.type_inv }) ∙ c.contact_kept-variable.ensures
+    ∙ ap₂ kept (ap₂ ◌-ℤ◌ (result (ρ a) w32 (var 0) tt) (result (ρ a) w32 (var 1) tt) ∙ place) (to_z-of_z {w = w32} (sfits_of d.struct_told-2-1.given.1.1.0.1)))
 
 pub overflow_sub-own : goal.overflow_sub-own
 overflow_sub-own c = (facts c.before).first

@@ -38,7 +38,7 @@ returns c =
     (none-put k.stiffness.now k.heights.now k.newer.now a.requires.0.heights-length a.requires.0.stiffness-length (subst T (sym c.if-none_pressed.true ∙ c.none_pressed.ensures) tt))
 
 write-roots-requires : tie.Need-write_roots-requires invariant-loop-j decreases-loop-j
-write-roots-requires c =
+write-roots-requires c κs =
     let numbers = c.write_numbers.ensures in
     let listed = c.list_pressed-count.ensures in
     let few = c.requires.0.most in
@@ -61,6 +61,13 @@ module _ (c : tie.After-write_roots invariant-loop-j decreases-loop-j) where
   root_is : (j : ℕ) → j < count → get_or c.write_roots.new.numbers j 0 ≡ gradient_at start.args.stiffness.now start.args.heights.now start.args.newer.now (get_or list j 0)
   root_is j l = c.write_roots.ensures.each j l ∙ ap root (c.write_numbers.ensures.filled.each j l) ∙ root-listed start.args.stiffness.now start.args.heights.now start.args.newer.now listed j l
 
+  -- an index that is listed, and its point
+  in_list : (j : ℕ) → j < count → j < 127
+  in_list j l = let f = listed.few in let m = start.requires.0.most in omega arith
+
+  point : (j : ℕ) → j < count → get_or list j 0 < 127
+  point j l = let b = listed.below j l in let m = start.requires.0.most in omega arith
+
 -- a turn
 module _ (c : tie.In-loop-j invariant-loop-j decreases-loop-j) where
   abbrev made : tie.After-write_roots invariant-loop-j decreases-loop-j
@@ -69,19 +76,13 @@ module _ (c : tie.In-loop-j invariant-loop-j decreases-loop-j) where
   abbrev j : ℕ
   j = c.loop-j.j
 
-  in_list : j < 127
-  in_list = let l = c.loop-j-test.true in let f = (listed made).few in let m = (start made).requires.0.most in omega arith
-
-  point : get_or (list made) j 0 < 127
-  point = let l = (listed made).below j c.loop-j-test.true in let m = (start made).requires.0.most in omega arith
-
-  small : get_or made.write-roots.new.numbers j 0 ≤ 255
+  small : get_or made.write_roots.new.numbers j 0 ≤ 255
   small = subst (λ (x : ℕ). x ≤ 255) (sym (root_is made j c.loop-j-test.true)) (gradient-size _ _).size
 
 loop-again : tie.Need-loop-j-preserved invariant-loop-j decreases-loop-j
 loop-again c =
     let a = (start (made c.before)).args in
-    (omega (arith, c.loop-j-test.true), put-more a.stiffness.now a.heights.now a.newer.now c.loop-j.invariant.1 (point c.before) (root_is (made c.before) (j c.before) c.loop-j-test.true))
+    (omega (arith, c.loop-j-test.true), put-more a.stiffness.now a.heights.now a.newer.now c.loop-j.invariant.1 (point (made c.before) (j c.before) c.loop-j-test.true) (root_is (made c.before) (j c.before) c.loop-j-test.true))
 
 returns-2 : tie.Need-returns invariant-loop-j decreases-loop-j
 returns-2 c =
@@ -99,19 +100,19 @@ point_gradients_spec =
     (tie.spec
     invariant-loop-j
     decreases-loop-j
-    (λ c. c.requires.0.heights-length)
+    (λ c κs. c.requires.0.heights-length)
     returns
-    (λ c. let a = c.before.before.before.before in (a.requires.0.heights-length, a.requires.0.most, refl))
-    (λ c. let a = c.before.before.before.before.before.before.before in (a.requires.0, c.list_pressed-count.ensures, refl))
+    (λ c κs. let a = c.before.before.before.before in (a.requires.0.heights-length, a.requires.0.most, refl))
+    (λ c κs. let a = c.before.before.before.before.before.before.before in (a.requires.0, c.list_pressed-count.ensures, refl))
     write-roots-requires
     (λ c. let k = (start c).args in (zero-le, subst (PutIn k.stiffness.now k.heights.now k.newer.now (list c) 0) (sym (start c).requires.1) (put-none k.stiffness.now k.heights.now k.newer.now)))
-    (λ c. let l = in_list c in omega arith)
-    (λ c. record { fits = let l = point c in omega arith })
-    (λ c. record { fits = let l = in_list c in omega arith })
-    (λ c. let l = in_list c in omega arith)
+    (λ c. let l = in_list c.before.before c.loop-j.j c.loop-j-test.true in omega arith)
+    (λ c. record { fits = let l = point c.before.before c.loop-j.j c.loop-j-test.true in omega arith })
+    (λ c. record { fits = let l = in_list c.before.before c.loop-j.j c.loop-j-test.true in omega arith })
+    (λ c. let l = in_list c.before.before c.loop-j.j c.loop-j-test.true in omega arith)
     (λ c. record { fits = let l = small c in omega arith })
-    point
-    (λ c. record { fits = let l = in_list c in omega arith })
+    (λ c. point (made c.before) (j c.before) c.loop-j-test.true)
+    (λ c. record { fits = let l = in_list (made c.before) (j c.before) c.loop-j-test.true in omega arith })
     (λ c. omega (arith, c.loop-j-test.true))
     loop-again
     returns-2)

@@ -67,7 +67,7 @@ module _ (c : tie.In-loop-j invariant-loop-j decreases-loop-j) where
   ρ = height-within height (all-entry height_ok heights (pos 0) start.requires.0.heights i (let l = point in let e = start.requires.0.heights-length in omega arith)) ▹ bounded 1048576 newer start.requires.0.string (suc i) ▹ ∅
 
 root-number-requires : tie.Need-root_number-number-requires invariant-loop-j decreases-loop-j
-root-number-requires c = let t = c.before.before.before.before.before in subst (λ d. pos 0 <ℤ d) (sym (result (ρ t) w32 depth tt)) (depth-above ((listed t).pressed (j t) t.loop-j-test.true))
+root-number-requires c κs = let t = c.before.before.before.before.before in subst (λ d. pos 0 <ℤ d) (sym (result (ρ t) w32 depth tt)) (depth-above ((listed t).pressed (j t) t.loop-j-test.true))
 
 loop-again : tie.Need-loop-j-preserved invariant-loop-j decreases-loop-j
 loop-again c =
@@ -88,19 +88,19 @@ write_numbers_spec =
     invariant-loop-j
     decreases-loop-j
     (λ c. (omega arith, subst (Begun 0 128 _ 0) (sym c.requires.2) begun-none))
-    (λ c. let l = in_list c in omega arith)
-    (λ c. record { fits = let l = small c.before in omega arith })
-    (λ c. record { fits = let l = small c.before in omega arith })
-    (λ c. let l = point c.before in let e = (start c.before).requires.0.heights-length in omega arith)
+    (λ c. let l = in_list c.before in omega arith)
     (λ c. record { fits = let l = small c.before.before in omega arith })
-    (λ c. point c.before.before)
+    (λ c. record { fits = let l = small c.before.before in omega arith })
+    (λ c. let l = point c.before.before in let e = (start c.before.before).requires.0.heights-length in omega arith)
     (λ c. record { fits = let l = small c.before.before.before in omega arith })
-    (λ c. let t = c.before.before.before.before in let l = point t in let e = (start t).requires.0.stiffness-length in omega arith)
-    (λ c. fits (ρ c.before.before.before.before) w32 depth tt)
+    (λ c. point c.before.before.before)
+    (λ c. record { fits = let l = small c.before.before.before.before in omega arith })
+    (λ c. let t = c.before.before.before.before.before in let l = point t in let e = (start t).requires.0.stiffness-length in omega arith)
+    (λ c. fits (ρ c.before.before.before.before.before) w32 depth tt)
     root-number-requires
-    (λ c. record { fits = let l = in_list c.before.before.before.before.before in omega arith })
-    (λ c. let l = in_list c.before.before.before.before.before in omega arith)
-    (λ c. record { fits = let l = in_list c.before.before.before.before.before in omega arith })
+    (λ c. record { fits = let l = in_list c.before.before.before.before.before.before in omega arith })
+    (λ c. let l = in_list c.before.before.before.before.before.before.before in omega arith)
+    (λ c. record { fits = let l = in_list c.before.before.before.before.before.before.before in omega arith })
     (λ c. omega (arith, c.loop-j-test.true))
     loop-again
     returns)

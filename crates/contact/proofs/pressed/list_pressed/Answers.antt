@@ -1,6 +1,5 @@
 -- `list_pressed` meets its contract.
 use mathlib.Core.Path.{◌≡◌, sym, subst}
-use mathlib.Core.Logic.{⊎_elim}
 use Prim.Native.Nat.{ℕ, ◌-◌, ◌≤◌, ◌<◌, ◌+◌}
 use native.Mathlib.Omega.{arith}
 use borrow.Author.Rules.{rules, sfits_of}
@@ -11,7 +10,7 @@ use mir.Val.{SFits}
 use Rattle.integers.specs.Tests.{below_at, below_true, below_false}
 use Rattle.contact.specs.Pressed.{Listed, listed-none, listed_more, listed_same}
 use Rattle.contact.proofs.pressed.list_pressed.Goals as goal
-use Rattle.contact.proofs.pressed.list_pressed.Goals.{In-loop-i, Joined-newer-i, Start}
+use Rattle.contact.proofs.pressed.list_pressed.Goals.{then-newer-i, else-newer-i, In-loop-i, Joined-newer-i, Start}
 
 -- a turn: the point, and where it is written
 module _ (c : In-loop-i) where
@@ -54,10 +53,10 @@ module _ (c : Joined-newer-i) where
   Next = Listed start.args.heights.now start.args.newer.now (i turn + 1) (set turn.loop-i.list (count turn) (i turn))
 
   next : Next c.if-newer-i.count
-  next = ⊎_elim
-      (λ w. subst Next (sym w.1) (listed_more (listed turn) (let l = point turn in omega arith) (below_true own height (below_at w32 _ own height w.0.taken own-fits height-fits))))
-      (λ w. subst Next (sym w.1) (listed_same (listed turn) (let l = point turn in omega arith) (below_false own height (below_at w32 _ own height w.0.left own-fits height-fits))))
-      c.if-newer-i.branch
+  next = elim c.if-newer-i.branch [
+        | then-newer-i w ↦ subst Next (sym w.count-is) (listed_more (listed turn) (let l = point turn in omega arith) (below_true own height (below_at w32 _ own height w.if-newer-i.true own-fits height-fits)))
+        | else-newer-i w ↦ subst Next (sym w.count-is) (listed_same (listed turn) (let l = point turn in omega arith) (below_false own height (below_at w32 _ own height w.if-newer-i.false own-fits height-fits)))
+      ]
 
 pub returns : goal.returns
 returns c =

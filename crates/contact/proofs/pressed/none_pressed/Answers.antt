@@ -46,10 +46,10 @@ module _ (c : After-none-in-loop-i-1) where
   own = get_or (newer c.before.before.before.before) c.loop-i.i (pos 0)
 
   height_is : to_z w32 (of_z w32 at-height) ≡ at-height
-  height_is = to_z-of_z (sfits_of c.none-1.given)
+  height_is = to_z-of_z {w = w32} (sfits_of c.none-1.given)
 
   own_is : to_z w32 (of_z w32 own) ≡ own
-  own_is = to_z-of_z (sfits_of c.none-in-loop-i-1.given)
+  own_is = to_z-of_z {w = w32} (sfits_of c.none-in-loop-i-1.given)
 
 pub loop-i-preserved : goal.loop-i-preserved
 loop-i-preserved c =

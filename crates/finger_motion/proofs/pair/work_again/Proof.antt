@@ -15,26 +15,26 @@ after = var 0 ⊞ var 1
 abbrev before : Code
 before = var 2 ⊞ var 3
 
-module _ (c : tie.After-struct-told2) where
+module _ (c : tie.After-struct_told-2-1) where
   abbrev k : tie.Start
   k = c.before.before
 
   gradients : Pair (k.args.worked.own, k.args.worked.gradient)
-  gradients = left-pair k.pre.1 k.pre.2
+  gradients = left-pair k.requires.1 k.requires.2
 
   ρ : Within (k.args.worked.own ∷ k.args.worked.gradient ∷ k.args.own ∷ k.args.gradient ∷ []) (255 ∷ 255 ∷ 255 ∷ 255 ∷ [])
-  ρ = gradients.own.0 ▹ gradients.gradient.0 ▹ k.pre.1.own.0 ▹ k.pre.1.gradient.0 ▹ ∅
+  ρ = gradients.own.0 ▹ gradients.gradient.0 ▹ k.requires.1.own.0 ▹ k.requires.1.gradient.0 ▹ ∅
 
-work-pair-requires : tie.Need-work-pair-requires
+work-pair-requires : tie.Need-work_pair-requires
 work-pair-requires c κs = let h = gradients c.before in search rules
 
-returns : tie.Need-returns
+returns : tie.Need-returns-then-own_left-finger_left
 returns d =
     let c = d.before in
-    stays (k c).requires.1 (k c).requires.2 (sym (result (ρ c) w64 after tt) ∙ ap (to_z w64) d.if1.true ∙ result (ρ c) w64 before tt)
+    stays (k c).requires.1 (k c).requires.2 (sym (result (ρ c) w64 after tt) ∙ ap (to_z w64) d.if-own_left-finger_left.true ∙ result (ρ c) w64 before tt)
 
-returns-2 : tie.Need-returns-2
-returns-2 d = let c = d.before.before in rw (k c).requires.2.gradients at (worked_is (k c).requires.0 (gradients c) d.work-pair.ensures)
+returns-2 : tie.Need-returns-else-own_left-finger_left
+returns-2 d = let c = d.before.before in rw (k c).requires.2.gradients at (worked_is (k c).requires.0 (gradients c) d.work_pair.ensures)
 
-pub work-again-spec : {M : Type 1} → statement M
-work-again-spec = tie.close (answer ρ w64 before tt (answer ρ w64 after tt tie.spec) work-pair-requires returns returns-2)
+pub work_again_spec : {M : Type 1} → statement M
+work_again_spec = tie.close (answer ρ w64 before tt (answer ρ w64 after tt tie.spec) work-pair-requires returns returns-2)

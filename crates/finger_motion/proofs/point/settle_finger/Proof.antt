@@ -50,14 +50,14 @@ module _ (a : tie.Start) where
   G = record { points = gradients_in (points s) a.args.gradients.now; finger = gradient (K s) (finger_depth s a.args.newer.now a.args.finger) }
 
   ranges : PointRanges s a.args.heights.now a.args.newer.now a.args.older.now a.args.contact.now G.points F.pluck
-  ranges = a.pre.0
+  ranges = a.requires.0
 
   -- the finger after clearing
   held : FingerRanges y.finger
-  held = let finger = a.pre.2 in record { newer = finger.newer; older = finger.older; contact = kept-ok (finger_depth s a.args.newer.now a.args.finger) a.args.finger.contact finger.contact }
+  held = let finger = a.requires.2 in record { newer = finger.newer; older = finger.older; contact = kept-ok (finger_depth s a.args.newer.now a.args.finger) a.args.finger.contact finger.contact }
 
   given : StepRanges s y F
-  given = record { strings = ranges.strings; contact = kept-size ranges; finger = held; pluck = ranges.force; force = a.pre.3 }
+  given = record { strings = ranges.strings; contact = kept-size ranges; finger = held; pluck = ranges.force; force = a.requires.3 }
 
   own_at : at G.points (p s) ≡ pos (get_or a.args.gradients.now (p s - 1) 0)
   own_at = ap (at G.points) (sym (finger-place ranges.strings)) ∙ gradient-in a.args.gradients.now (p s - 1) (finger-point ranges.strings)
@@ -81,33 +81,33 @@ module _ (a : tie.Start) where
   abbrev settled : WorkedPair
   settled = last_worked s b ψ y.finger F.finger (pair_at s y F G)
 
-kept-at-requires : tie.Need-kept-at-requires
+kept-at-requires : tie.Need-kept_at-variable-requires
 kept-at-requires c κs =
-    let r = ranges c.before.before in
+    let r = ranges c.before.before.before in
     let n = r.strings.newer-length in
     (r.heights-length ∙ sym n, r.contact-length ∙ sym n, rw n (finger-point r.strings))
 
 -- the pluck force at p
-module _ (c : tie.After-force-at) where
+module _ (c : tie.After-force_at-pluck_at) where
   abbrev forced : tie.Start
-  forced = c.before.before.before.before.before
+  forced = c.before.before.before.before.before.before
 
-  force_is : to_z w32 (of_z w32 c.force-at.result) ≡ cond (eqb (suc (p (s forced) - 1)) (e (s forced))) (F forced).pluck (pos 0)
-  force_is = to_z-of_z (record { sfits = c.force-at.type-inv }) ∙ c.force-at.ensures
-      ∙ ap₂ (λ (j : ℕ) f. cond (eqb j (e (s forced))) f (pos 0)) (sym (finger-place (ranges forced).strings)) (to_z-of_z forced.fits.pluck)
+  force_is : to_z w32 (of_z w32 c.force_at-pluck_at.result) ≡ cond (eqb (suc (p (s forced) - 1)) (e (s forced))) (F forced).pluck (pos 0)
+  force_is = to_z-of_z {w = w32} (record { sfits = c.force_at-pluck_at.type_inv }) ∙ c.force_at-pluck_at.ensures
+      ∙ ap₂ (λ (j : ℕ) f. cond (eqb j (e (s forced))) f (pos 0)) (sym (finger-place (ranges forced).strings)) (to_z-of_z forced.ranges.pluck)
 
-free-side-requires : tie.Need-free-side-requires
+free-side-requires : tie.Need-free_side-side-requires
 free-side-requires c κs =
     let a = forced c in
-    ((ranges a).strings, a.pre.1, rw (force_is c) (force-ok (F a).pluck (eqb (suc (p (s a) - 1)) (e (s a))) (ranges a).force), finger-point (ranges a).strings)
+    ((ranges a).strings, a.requires.1, rw (force_is c) (force-ok (F a).pluck (eqb (suc (p (s a) - 1)) (e (s a))) (ranges a).force), finger-point (ranges a).strings)
 
 -- what `settle_pair` is given, read from its bits
-module _ (d : tie.After-struct-told3) where
-  abbrev free : tie.After-free-side
+module _ (d : tie.After-struct_told-3-1) where
+  abbrev free : tie.After-free_side-side
   free = d.before.before.before
 
   abbrev finger : Contact
-  finger = free.before.before.finger-contact.result
+  finger = free.finger_contact-held.result
 
   abbrev k : tie.Start
   k = forced free.before
@@ -115,18 +115,18 @@ module _ (d : tie.After-struct-told3) where
   place : suc (p (s k) - 1) ≡ p (s k)
   place = finger-place (ranges k).strings
 
-  side_is : to_z w64 (of_z w64 free.free-side.result) ≡ b k
-  side_is = to_z-of_z (record { sfits = free.free-side.ok }) ∙ free.free-side.ensures
+  side_is : to_z w64 (of_z w64 free.free_side-side.result) ≡ b k
+  side_is = to_z-of_z {w = w64} (record { sfits = free.free_side-side.type_inv }) ∙ free.free_side-side.ensures
       ∙ ap₂ (λ f (i : ℕ). right_side (s k) (y k).newer (y k).older (pos 0) (pos 0) f i) (force_is free.before ∙ ap (λ (i : ℕ). cond (eqb i (e (s k))) (F k).pluck (pos 0)) place) place
 
   own_is : to_z w64 (of_z w64 (pos (get_or k.args.gradients.now (p (s k) - 1) 0))) ≡ at (G k).points (p (s k))
   own_is = to_z-of_z (own-fits k) ∙ sym (own_at k)
 
-  variable_is : to_z w32 (of_z w32 free.before.before.before.kept_at.result) ≡ ψ k
-  variable_is = to_z-of_z (record { sfits = free.before.before.before.kept_at.ok }) ∙ free.before.before.before.kept_at.ensures ∙ ap (at (y k).contact) place
+  variable_is : to_z w32 (of_z w32 free.kept_at-variable.result) ≡ ψ k
+  variable_is = to_z-of_z {w = w32} (record { sfits = free.kept_at-variable.type_inv }) ∙ free.kept_at-variable.ensures ∙ ap (at (y k).contact) place
 
   gradient_is : to_z w64 (of_z w64 finger.gradient) ≡ (G k).finger
-  gradient_is = ap (λ r. to_z w64 (of_z w64 r.gradient)) free.before.before.finger-contact.ensures ∙ to_z-of_z (Size.fits (gradient-size _ _) tt)
+  gradient_is = ap (λ r. to_z w64 (of_z w64 r.gradient)) free.finger_contact-held.ensures ∙ to_z-of_z {w = w64} (Size.fits (gradient-size _ _) tt)
 
   -- the finger after clearing
   finger_is : ◌≡◌ {A = Finger} (record { newer = to_z w32 (of_z w32 (y k).finger.newer); older = to_z w32 (of_z w32 (y k).finger.older); contact = to_z w32 (of_z w32 finger.variable) }) (y k).finger
@@ -134,24 +134,24 @@ module _ (d : tie.After-struct-told3) where
   finger_is = λ i. record {
     newer = to_z-of_z {w = w32} (Size.fits (inside-within 1048576 (y k).finger.newer (held k).newer) tt) i;
     older = to_z-of_z {w = w32} (Size.fits (inside-within 1048576 (y k).finger.older (held k).older) tt) i;
-    contact = (ap (λ r. to_z w32 (of_z w32 r.variable)) free.before.before.finger-contact.ensures ∙ to_z-of_z (Size.fits (inside-within 67108864 (y k).finger.contact (held k).contact) tt)) i;
+    contact = (ap (λ r. to_z w32 (of_z w32 r.variable)) free.finger_contact-held.ensures ∙ to_z-of_z {w = w32} (Size.fits (inside-within 67108864 (y k).finger.contact (held k).contact) tt)) i;
   }
 
   force-read : to_z w32 (of_z w32 (F k).finger) ≡ (F k).finger
-  force-read = to_z-of_z k.fits.force
+  force-read = to_z-of_z k.ranges.force
 
-settle-pair-requires : tie.Need-settle-pair-requires
+settle-pair-requires : tie.Need-settle_pair-pair-requires
 settle-pair-requires d κs = rw (side_is d, variable_is d, finger_is d, force-read d, own_is d, gradient_is d) (pair-ranges (given (k d)) (G (k d)), pair (k d))
 
 -- the last gradients and moves
-worked_is : (c : tie.After-settle-pair) → (c.settle-pair.result ≡ settled (k c.before))
+worked_is : (c : tie.After-settle_pair-pair) → (c.settle_pair-pair.result ≡ settled (k c.before))
 worked_is c =
     let d = c.before in
     let a = k d in
     worked-last (s a) (b a) (ψ a) (y a).finger (F a).finger (pair_at (s a) (y a) (F a) (G a))
-    (rw (side_is d, variable_is d, finger_is d, force-read d, own_is d, gradient_is d) at c.settle-pair.ensures)
+    (rw (side_is d, variable_is d, finger_is d, force-read d, own_is d, gradient_is d) at c.settle_pair-pair.ensures)
 
-next-at-finger-requires : tie.Need-next-at-finger-requires
+next-at-finger-requires : tie.Need-next_at_finger-requires
 next-at-finger-requires c κs =
     let d = c.before in
     let a = k d in
@@ -161,23 +161,23 @@ returns : tie.Need-returns
 returns r =
     let c = r.before in
     let d = c.before in
-    r.next-at-finger.ensures ∙ (λ i. record {
+    r.next_at_finger.ensures ∙ (λ i. record {
       delta = (worked_is c i).delta;
-      contact = variable_is d i -ℤ (worked_is c i).own *ℤ (worked_is c i).delta;
+      contact = variable_is d i -ℤ (worked_is c i).own-1 *ℤ (worked_is c i).delta;
       height = (finger_is d i).older +ℤ (worked_is c i).finger_delta;
       finger_contact = (finger_is d i).contact +ℤ (worked_is c i).gradient *ℤ ((worked_is c i).delta -ℤ (worked_is c i).finger_delta);
     })
 
-pub settle-finger-spec : {M : Type 1} → statement M
-settle-finger-spec =
+pub settle_finger_spec : {M : Type 1} → statement M
+settle_finger_spec =
     tie.close
     (tie.spec
     (λ c. search rules)
     (λ c. (facts (ranges c.before).strings).first)
-    (λ c. in_array c.before)
-    (λ c. (facts (ranges c.before.before).strings).first)
+    (λ c. in_array c.before.before)
+    (λ c. (facts (ranges c.before.before.before).strings).first)
     kept-at-requires
-    (λ c κs. let a = c.before.before.before in let r = (ranges a).strings in (r.setup, r.newer-length, r.newer, a.requires.2.newer))
+    (λ c κs. let a = c.before.before.before.before in let r = (ranges a).strings in (r.setup, r.newer-length, r.newer, a.requires.2.newer))
     (λ c κs. search rules)
     (λ c. (facts (ranges (forced c)).strings).first)
     free-side-requires

@@ -27,19 +27,19 @@ use Rattle.motion.specs.InRange.{most-points, kept-size, side-within, gradient-i
 use Rattle.motion.proofs.points.settle_points.Statement.{statement}
 use Rattle.motion.proofs.points.settle_points.Tie as tie
 
-abbrev invariant-loop : tie.invariant-loop
-invariant-loop setup heights gradients weights newer older contact pluck moves₀ contacts₀ i₀ i-end moves contacts i =
+abbrev invariant-loop-i : tie.invariant-loop-i
+invariant-loop-i setup heights gradients weights newer older contact pluck moves₀ contacts₀ i₀ i-end moves contacts i =
     let ψ = kept_contacts heights newer contact in
     let G = gradients_in (points setup) gradients in
     Filled (pos 0) 127 (λ k. last_move setup newer older ψ G (to_z w32 pluck) (suc k)) i moves × Filled (pos 0) 127 (λ k. last_contact setup newer older ψ G (to_z w32 pluck) (suc k)) i contacts
 
-abbrev decreases-loop : tie.decreases-loop
-decreases-loop setup heights gradients weights newer older contact pluck moves₀ contacts₀ i₀ i-end moves contacts i = i-end - i
+abbrev decreases-loop-i : tie.decreases-loop-i
+decreases-loop-i setup heights gradients weights newer older contact pluck moves₀ contacts₀ i₀ i-end moves contacts i = i-end - i
 
-loop-holds : tie.Need-loop-init invariant-loop decreases-loop
+loop-holds : tie.Need-loop-i-init invariant-loop-i decreases-loop-i
 loop-holds c = (filled_none c.requires.2, filled_none c.requires.3)
 
-module _ (a : tie.Start invariant-loop decreases-loop) where
+module _ (a : tie.Start invariant-loop-i decreases-loop-i) where
   abbrev ψ : List ℤ
   ψ = kept_contacts a.args.heights.now a.args.newer.now a.args.contact.now
 
@@ -47,54 +47,54 @@ module _ (a : tie.Start invariant-loop decreases-loop) where
   G = gradients_in (points a.args.setup) a.args.gradients.now
 
   ranges : PointRanges a.args.setup a.args.heights.now a.args.newer.now a.args.older.now a.args.contact.now G a.args.pluck
-  ranges = a.pre.0
+  ranges = a.requires.0
 
   abbrev side : ℕ → ℤ
   side = free_side a.args.setup a.args.newer.now a.args.older.now ψ G a.args.pluck
 
-module _ (c : tie.In-loop invariant-loop decreases-loop) where
-  abbrev start : tie.Start invariant-loop decreases-loop
+module _ (c : tie.In-loop-i invariant-loop-i decreases-loop-i) where
+  abbrev start : tie.Start invariant-loop-i decreases-loop-i
   start = c.before.before
 
   abbrev i : ℕ
-  i = c.before.loop.i
+  i = c.loop-i.i
 
   point : i < points start.args.setup
-  point = let e = (ranges start).strings.newer-length in let l = c.loop-test.true in omega arith
+  point = let e = (ranges start).strings.newer-length in let l = c.loop-i-test.true in omega arith
 
   in_array : i < 127
   in_array = let m = most-points (ranges start).strings in let l = point in omega arith
 
-kept-at-requires : tie.Need-kept-at-requires invariant-loop decreases-loop
+kept-at-requires : tie.Need-kept_at-kept-requires invariant-loop-i decreases-loop-i
 kept-at-requires c κs =
-    let t = c.before in
+    let t = c.before.before in
     let r = ranges (start t) in
     let n = r.strings.newer-length in
-    (r.heights-length ∙ sym n, r.contact-length ∙ sym n, t.loop-test.true)
+    (r.heights-length ∙ sym n, r.contact-length ∙ sym n, t.loop-i-test.true)
 
 -- the pluck force at the point, and c without its contact
-module _ (c : tie.After-force-at invariant-loop decreases-loop) where
-  abbrev turn : tie.In-loop invariant-loop decreases-loop
-  turn = c.before.before.before
+module _ (c : tie.After-force_at-force invariant-loop-i decreases-loop-i) where
+  abbrev turn : tie.In-loop-i invariant-loop-i decreases-loop-i
+  turn = c.before.before.before.before
 
-  abbrev a : tie.Start invariant-loop decreases-loop
+  abbrev a : tie.Start invariant-loop-i decreases-loop-i
   a = start turn
 
-  force_is : to_z w32 (of_z w32 c.force-at.result) ≡ cond (eqb (suc (i turn)) (e a.args.setup)) a.args.pluck (pos 0)
-  force_is = to_z-of_z (record { sfits = c.force-at.type-inv }) ∙ c.force-at.ensures
-      ∙ ap₂ (λ (j : ℕ) f. cond (eqb j (e a.args.setup)) f (pos 0)) (add-one (i turn)) (to_z-of_z a.fits.pluck)
+  force_is : to_z w32 (of_z w32 c.force_at-force.result) ≡ cond (eqb (suc (i turn)) (e a.args.setup)) a.args.pluck (pos 0)
+  force_is = to_z-of_z {w = w32} (record { sfits = c.force_at-force.type_inv }) ∙ c.force_at-force.ensures
+      ∙ ap₂ (λ (j : ℕ) f. cond (eqb j (e a.args.setup)) f (pos 0)) (add-one (i turn)) (to_z-of_z a.ranges.pluck)
 
-free-side-requires : tie.Need-free-side-requires invariant-loop decreases-loop
+free-side-requires : tie.Need-free_side-side-requires invariant-loop-i decreases-loop-i
 free-side-requires c κs =
     let k = a c in
-    ((ranges k).strings, k.pre.1, rw (force_is c) (force-ok k.args.pluck (eqb (suc (i (turn c))) (e k.args.setup)) (ranges k).force), point (turn c))
+    ((ranges k).strings, k.requires.1, rw (force_is c) (force-ok k.args.pluck (eqb (suc (i (turn c))) (e k.args.setup)) (ranges k).force), point (turn c))
 
 -- what `settle_point` is given
-module _ (d : tie.After-free-side invariant-loop decreases-loop) where
-  abbrev forced : tie.After-force-at invariant-loop decreases-loop
+module _ (d : tie.After-free_side-side invariant-loop-i decreases-loop-i) where
+  abbrev forced : tie.After-force_at-force invariant-loop-i decreases-loop-i
   forced = d.before
 
-  abbrev now : tie.Start invariant-loop decreases-loop
+  abbrev now : tie.Start invariant-loop-i decreases-loop-i
   now = a forced
 
   abbrev index : ℕ
@@ -103,8 +103,8 @@ module _ (d : tie.After-free-side invariant-loop decreases-loop) where
   abbrev place : ℕ
   place = suc index
 
-  side_is : to_z w64 (of_z w64 d.free-side.result) ≡ side now place
-  side_is = to_z-of_z (record { sfits = d.free-side.ok }) ∙ d.free-side.ensures
+  side_is : to_z w64 (of_z w64 d.free_side-side.result) ≡ side now place
+  side_is = to_z-of_z {w = w64} (record { sfits = d.free_side-side.type_inv }) ∙ d.free_side-side.ensures
       ∙ ap (λ f. right_side now.args.setup now.args.newer.now now.args.older.now (pos 0) (pos 0) f place) (force_is forced)
 
   gradient-at : at (G now) place ≡ pos (get_or now.args.gradients.now index 0)
@@ -116,10 +116,10 @@ module _ (d : tie.After-free-side invariant-loop decreases-loop) where
   gradient_is : to_z w64 (of_z w64 (pos (get_or now.args.gradients.now index 0))) ≡ at (G now) place
   gradient_is = to_z-of_z gradient-fits ∙ sym gradient-at
 
-  variable_is : to_z w32 (of_z w32 forced.before.kept_at.result) ≡ at (ψ now) place
-  variable_is = to_z-of_z (record { sfits = forced.before.kept_at.ok }) ∙ forced.before.kept_at.ensures
+  variable_is : to_z w32 (of_z w32 forced.kept_at-kept.result) ≡ at (ψ now) place
+  variable_is = to_z-of_z {w = w32} (record { sfits = forced.kept_at-kept.type_inv }) ∙ forced.kept_at-kept.ensures
 
-settle-point-requires : tie.Need-settle-point-requires invariant-loop decreases-loop
+settle-point-requires : tie.Need-settle_point-point-requires invariant-loop-i decreases-loop-i
 settle-point-requires d κs =
     let k = now d in
     let r = ranges k in
@@ -131,51 +131,51 @@ settle-point-requires d κs =
     )
 
 -- what it settles
-module _ (c : tie.After-struct-told2 invariant-loop decreases-loop) where
-  abbrev d : tie.After-free-side invariant-loop decreases-loop
+module _ (c : tie.After-struct_told-in-loop-i-1 invariant-loop-i decreases-loop-i) where
+  abbrev d : tie.After-free_side-side invariant-loop-i decreases-loop-i
   d = c.before.before.before
 
-  settled : c.before.before.settle-point.result ≡ (let s = (now d).args.setup in record { delta = settled_move s (side (now d) (place d)) (at (ψ (now d)) (place d)) (at (G (now d)) (place d)); contact = settled_contact s (side (now d) (place d)) (at (ψ (now d)) (place d)) (at (G (now d)) (place d)) })
-  settled = let s = (now d).args.setup in c.before.before.settle-point.ensures ∙ (λ j. record {
+  settled : c.settle_point-point.result ≡ (let s = (now d).args.setup in record { delta = settled_move s (side (now d) (place d)) (at (ψ (now d)) (place d)) (at (G (now d)) (place d)); contact = settled_contact s (side (now d) (place d)) (at (ψ (now d)) (place d)) (at (G (now d)) (place d)) })
+  settled = let s = (now d).args.setup in c.settle_point-point.ensures ∙ (λ j. record {
     delta = settled_move s (side_is d j) (variable_is d j) (gradient_is d j);
     contact = settled_contact s (side_is d j) (variable_is d j) (gradient_is d j);
   })
 
   -- with the pluck force as the loop has it
   as_read : (P : ℤ → ℤ) → P (now d).args.pluck ≡ P (to_z w32 (of_z w32 (now d).args.pluck))
-  as_read P = ap P (sym (to_z-of_z (now d).fits.pluck))
+  as_read P = ap P (sym (to_z-of_z (now d).ranges.pluck))
 
-loop-again : tie.Need-loop-preserved invariant-loop decreases-loop
+loop-again : tie.Need-loop-i-preserved invariant-loop-i decreases-loop-i
 loop-again c =
     let t = turn (forced (d c)) in
     let k = (now (d c)).args in
-    let told = c.struct-told2.given in (
-      filled_more (in_array t) t.before.loop.inv.0 (to_z-of_z (sfits_of told.0.1) ∙ ap (λ r. r.delta) (settled c) ∙ as_read c (λ f. last_move k.setup k.newer.now k.older.now (ψ (now (d c))) (G (now (d c))) f (place (d c)))),
-      filled_more (in_array t) t.before.loop.inv.1 (to_z-of_z (sfits_of told.1.0.1) ∙ ap (λ r. r.contact) (settled c) ∙ as_read c (λ f. last_contact k.setup k.newer.now k.older.now (ψ (now (d c))) (G (now (d c))) f (place (d c)))),
+    let told = c.struct_told-in-loop-i-1.given in (
+      filled_more (in_array t) t.loop-i.invariant.0 (to_z-of_z {w = w32} (sfits_of told.0.1) ∙ ap (λ r. r.delta) (settled c) ∙ as_read c (λ f. last_move k.setup k.newer.now k.older.now (ψ (now (d c))) (G (now (d c))) f (place (d c)))),
+      filled_more (in_array t) t.loop-i.invariant.1 (to_z-of_z {w = w32} (sfits_of told.1.0.1) ∙ ap (λ r. r.contact) (settled c) ∙ as_read c (λ f. last_contact k.setup k.newer.now k.older.now (ψ (now (d c))) (G (now (d c))) f (place (d c)))),
     )
 
-returns : tie.Need-returns invariant-loop decreases-loop
+returns : tie.Need-returns invariant-loop-i decreases-loop-i
 returns c =
     let a = c.before.before in
     let e = (ranges a).strings.newer-length in
-    let inv = c.before.loop.invariant in
+    let inv = c.loop-i.invariant in
     let m = most-points (ranges a).strings in (
       inv.0.len,
       inv.1.len,
-      rw (to_z-of_z a.ranges.pluck) at (filled-first {m = points a.args.setup} (omega (arith, c.loop-test.false)) m inv.0),
-      rw (to_z-of_z a.ranges.pluck) at (filled-first {m = points a.args.setup} (omega (arith, c.loop-test.false)) m inv.1),
+      rw (to_z-of_z a.ranges.pluck) at (filled-first {m = points a.args.setup} (omega (arith, c.loop-i-test.false)) m inv.0),
+      rw (to_z-of_z a.ranges.pluck) at (filled-first {m = points a.args.setup} (omega (arith, c.loop-i-test.false)) m inv.1),
     )
 
-pub settle-points-spec : {M : Type 1} → statement M
-settle-points-spec =
+pub settle_points_spec : {M : Type 1} → statement M
+settle_points_spec =
     tie.close
     (tie.spec
-    invariant-loop
-    decreases-loop
+    invariant-loop-i
+    decreases-loop-i
     loop-holds
-    in_array
+    (λ c. in_array c.before)
     kept-at-requires
-    (λ c. omega (arith, in_array c.before.before))
+    (λ c. omega (arith, in_array c.before.before.before))
     (λ c κs. tt)
     free-side-requires
     gradient-fits
@@ -185,6 +185,6 @@ settle-points-spec =
     (λ c. omega (arith, in_array (turn (forced (d c)))))
     (λ c. in_array (turn (forced (d c))))
     (λ c. omega (arith, in_array (turn (forced (d c)))))
-    (λ c. omega (arith, (turn (forced (d c))).loop-test.taken))
+    (λ c. omega (arith, (turn (forced (d c))).loop-i-test.true))
     loop-again
     returns)

@@ -1,6 +1,5 @@
 -- `length_ok` meets its contract.
 use mathlib.Core.Path.{refl}
-use borrow.Author.Rules.{rules}
 use Rattle.model.specs.Setup.{length_ok}
 use Rattle.ranges.proofs.lengths.length_ok.Goals as goal
 

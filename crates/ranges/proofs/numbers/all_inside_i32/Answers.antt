@@ -1,13 +1,8 @@
 -- The loop's invariant: the test of the whole slice is `ok` and the test of what is left.
-use mathlib.Core.Bool.{◌&&◌}
-use Prim.Native.Nat.{◌-◌}
 use native.Mathlib.Omega.{arith}
-use lib.ListN.{length}
 use borrow.Author.Rules.{sfits_of}
 use mir.Syntax.{w32}
-use Rattle.integers.specs.Scan.{Scanned}
-use Rattle.model.specs.Ranges.{all}
-use Rattle.ranges.specs.Scan.{none_yet, inside_bits, more-inside, over-inside}
+use Rattle.ranges.specs.Scan.{none_yet, more-inside, over-inside}
 use Rattle.ranges.proofs.numbers.all_inside_i32.Goals as goal
 
 pub loop-i-preserved : goal.loop-i-preserved

@@ -1,10 +1,5 @@
 -- The loop's invariant: the test of the whole list is `ok` and the test of what is left.
-use mathlib.Core.Bool.{◌&&◌}
-use Prim.Native.Nat.{◌-◌}
 use native.Mathlib.Omega.{arith}
-use lib.ListN.{length}
-use Rattle.integers.specs.Scan.{Scanned}
-use Rattle.model.specs.Ranges.{all}
 use Rattle.model.specs.Setup.{place_ok}
 use Rattle.ranges.specs.Scan.{none_yet, more-all, over-all}
 use Rattle.ranges.proofs.places.places_ok.Goals as goal

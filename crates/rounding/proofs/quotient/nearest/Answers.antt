@@ -61,8 +61,8 @@ returns-else-rest-lt0 c =
     let s = c.before.before in
     result (ρ s) w64 quotient tt ∙ quotient-nearest s.args.num s.args.den s.requires.0 (above s c.if-rest-eq0.false (else-lt (ρ s) w64 rest (♯ 0) tt c.if-rest-lt0.false))
 
-pub nonzero-div-quotient : goal.Need-nonzero-div-quotient
-nonzero-div-quotient c = (divisor (ρ c) w64 unit tt (unit-positive c.args.num c.args.den c.requires.0), fits (ρ c) w64 quotient tt)
+pub nonzero_div-quotient : goal.nonzero_div-quotient
+nonzero_div-quotient c = (divisor (ρ c) w64 unit tt (unit-positive c.args.num c.args.den c.requires.0), fits (ρ c) w64 quotient tt)
 
 pub overflow_mul-twice : goal.overflow_mul-twice
 overflow_mul-twice c = fits (ρ c) w64 (♯ 2 ⊠ var 0) tt
@@ -78,3 +78,6 @@ overflow_mul-result c = fits (ρ c.before) w64 even tt
 
 pub overflow_sub-result : goal.overflow_sub-result
 overflow_sub-result c = fits (ρ c.before.before) w64 less tt
+
+pub nonzero_rem-rest : goal.nonzero_rem-rest
+nonzero_rem-rest c = nonzero_div-quotient c

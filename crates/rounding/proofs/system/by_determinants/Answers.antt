@@ -8,7 +8,7 @@ use lib.Signed.{◌<ℤ◌}
 use mir.Syntax.{w64}
 use mir.Facts.{to_z-of_z}
 use Rattle.integers.specs.Size.{◌within◌, wide}
-use Rattle.integers.specs.Machine.{Code, var, ◌⊟◌, ◌⊠◌, value, held, safe, result, held-within, answer}
+use Rattle.integers.specs.Machine.{Code, var, ◌⊟◌, ◌⊠◌, value, held, safe, fits, result, held-within}
 use Rattle.model.specs.System.{System, det, rounded₁, rounded₂}
 use Rattle.model.specs.Rounding.{nearest}
 use Rattle.rounding.specs.Systems.{entries, system_sizes, Solvable}
@@ -45,11 +45,38 @@ unfolding rounded₁ rounded₂
 returns c =
     let h = solvable c.before.before in
     ap₂ (λ x y. x ∷ y ∷ [])
-    (to_z-of_z (record { sfits = c.nearest.type_inv }) ∙ rounds h d₁ tt c.nearest.ensures)
-    (to_z-of_z (record { sfits = c.nearest-2.type_inv }) ∙ rounds h d₂ tt c.nearest-2.ensures)
+    (to_z-of_z {w = w64} (record { sfits = c.nearest.type_inv }) ∙ rounds h d₁ tt c.nearest.ensures)
+    (to_z-of_z {w = w64} (record { sfits = c.nearest-2.type_inv }) ∙ rounds h d₂ tt c.nearest-2.ensures)
 
 pub nearest-requires : goal.nearest-requires
 nearest-requires c = let h = solvable c in asked h d₁ (wide (held-within h.sizes w64 d₁ tt) tt)
 
 pub nearest-requires-2 : goal.nearest-requires-2
 nearest-requires-2 c = let h = solvable c.before in asked h d₂ (wide (held-within h.sizes w64 d₂ tt) tt)
+
+pub overflow_mul-det : goal.overflow_mul-det
+overflow_mul-det c = fits (solvable c).sizes w64 (var 0 ⊠ var 3) tt
+
+pub overflow_mul-det-2 : goal.overflow_mul-det-2
+overflow_mul-det-2 c = fits (solvable c).sizes w64 (var 1 ⊠ var 2) tt
+
+pub overflow_sub-det : goal.overflow_sub-det
+overflow_sub-det c = fits (solvable c).sizes w64 d tt
+
+pub overflow_mul-det1 : goal.overflow_mul-det1
+overflow_mul-det1 c = fits (solvable c).sizes w64 (var 4 ⊠ var 3) tt
+
+pub overflow_mul-det1-2 : goal.overflow_mul-det1-2
+overflow_mul-det1-2 c = fits (solvable c).sizes w64 (var 1 ⊠ var 5) tt
+
+pub overflow_sub-det1 : goal.overflow_sub-det1
+overflow_sub-det1 c = fits (solvable c).sizes w64 d₁ tt
+
+pub overflow_mul-det2 : goal.overflow_mul-det2
+overflow_mul-det2 c = fits (solvable c).sizes w64 (var 0 ⊠ var 5) tt
+
+pub overflow_mul-det2-2 : goal.overflow_mul-det2-2
+overflow_mul-det2-2 c = fits (solvable c).sizes w64 (var 4 ⊠ var 2) tt
+
+pub overflow_sub-det2 : goal.overflow_sub-det2
+overflow_sub-det2 c = fits (solvable c).sizes w64 d₂ tt

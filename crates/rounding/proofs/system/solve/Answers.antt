@@ -1,6 +1,5 @@
 -- `solve` meets its contract: the entries are read from the arrays as they are.
 use mathlib.Core.Path.{◌≡◌, sym, subst, ◌∙◌, ap}
-use lib.Dec.{lit<}
 use lib.IntN.{ℤ}
 use mir.Syntax.{w64}
 use mir.Val.{to_z, of_z}
@@ -21,33 +20,3 @@ returns c = c.by_determinants.ensures ∙ ap rounded (same c.requires)
 
 pub by_determinants-requires : goal.by_determinants-requires
 by_determinants-requires c = let h = c.requires in subst Solvable (sym (same h)) h
-
-pub bounds-matrix-0 : goal.bounds-matrix-0
-bounds-matrix-0 c = lit< tt
-
-pub bounds-matrix-0-2 : goal.bounds-matrix-0-2
-bounds-matrix-0-2 c = lit< tt
-
-pub bounds-matrix-0-3 : goal.bounds-matrix-0-3
-bounds-matrix-0-3 c = lit< tt
-
-pub bounds-matrix-1 : goal.bounds-matrix-1
-bounds-matrix-1 c = lit< tt
-
-pub bounds-matrix-1-2 : goal.bounds-matrix-1-2
-bounds-matrix-1-2 c = lit< tt
-
-pub bounds-matrix-0-4 : goal.bounds-matrix-0-4
-bounds-matrix-0-4 c = lit< tt
-
-pub bounds-matrix-1-3 : goal.bounds-matrix-1-3
-bounds-matrix-1-3 c = lit< tt
-
-pub bounds-matrix-1-4 : goal.bounds-matrix-1-4
-bounds-matrix-1-4 c = lit< tt
-
-pub bounds-right-0 : goal.bounds-right-0
-bounds-right-0 c = lit< tt
-
-pub bounds-right-1 : goal.bounds-right-1
-bounds-right-1 c = lit< tt

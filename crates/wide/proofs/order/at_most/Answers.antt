@@ -6,7 +6,6 @@ use lib.IntN.{pos, ◌+ℤ◌, ◌*ℤ◌}
 use lib.Signed.{le_z, lt_z, ◌<ℤ◌}
 use mir.Syntax.{w64}
 use mir.Val.{to_z, of_z}
-use mir.Facts.{to_z-of_z}
 use Rattle.integers.specs.Order.{<-≤, ≤-antisym}
 use Rattle.integers.specs.Tests.{lt_z-true, lt_z-false, le-le_z, lt-le_z}
 use Rattle.model.specs.Wide.{value}

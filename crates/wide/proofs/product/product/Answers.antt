@@ -13,7 +13,6 @@ use Rattle.integers.specs.Size as Size
 use Rattle.integers.specs.Size.{◌within◌, ◌⟨*⟩◌, natural, num, wide}
 use Rattle.integers.specs.Machine.{Code, var, ♯◌, ◌⊟◌, ◌⊠◌, ◌≫◌, Within, ∅, ◌▹◌, held, fits, result, sized}
 use Rattle.integers.specs.Solve.{◌⊕◌, ◌⊖◌, ◌⊗◌, #◌, ◌≐◌, solve}
-use Rattle.model.specs.Wide.{value}
 use Rattle.wide.specs.Words.{halves}
 use Rattle.wide.proofs.product.product.Goals as goal
 use Rattle.wide.proofs.product.product.Goals.{Start}
@@ -53,7 +52,7 @@ module _ (k : Start) where
   factors = ap₂ (λ y z. y *ℤ z) (to_z-of_z k.ranges.a) (result ρ w64 rest tt ∙ low.1.0)
 
   low_is : to_z w64 (of_z w64 (to_z w64 (of_z w64 a) *ℤ held (a ∷ b ∷ []) w64 rest)) ≡ a *ℤ pos low.0
-  low_is = ap (λ z. to_z w64 (of_z w64 z)) factors ∙ to_z-of_z (Size.fits low-within tt)
+  low_is = ap (λ z. to_z w64 (of_z w64 z)) factors ∙ to_z-of_z {w = w64} (Size.fits low-within tt)
 
 pub raised-requires : goal.raised-requires
 raised-requires k = rw (high_is k) (wide (high-within k) tt)

@@ -1,17 +1,16 @@
 -- `times` meets its contract: the low word's product carries into the high word's.
 use mathlib.Core.Path.{◌≡◌, ◌∙◌, ap, ap₂}
-use Prim.Native.Nat.{ℕ, ◌+◌, ◌*◌, ◌^◌, ◌<◌}
+use Prim.Native.Nat.{ℕ, ◌+◌, ◌^◌, ◌<◌}
 use native.Mathlib.Nat.{mul-le-mul, le_of_lt}
 use native.Mathlib.Omega.{arith}
 use borrow.Author.Rules.{rules}
-use lib.IntN.{ℤ, pos, ◌+ℤ◌, ◌*ℤ◌}
+use lib.IntN.{pos, ◌+ℤ◌, ◌*ℤ◌}
 use mir.Syntax.{w64}
 use mir.Val.{to_z, of_z}
 use mir.Facts.{to_z-of_z, to_z_pos}
 use Rattle.integers.specs.Size as Size
 use Rattle.integers.specs.Size.{◌within◌, ◌⟨+⟩◌, natural, wide}
 use Rattle.integers.specs.Solve.{◌⊕◌, ◌⊗◌, #◌, ◌≐◌, solve}
-use Rattle.model.specs.Wide.{value}
 use Rattle.model.specs.declared.Wide.{Wide}
 use Rattle.wide.specs.Words.{high_size, high-within, high-part-within}
 use Rattle.wide.proofs.product.times.Goals as goal
@@ -52,17 +51,17 @@ module _ (c : After-struct_told-2-1) where
   factors = ap₂ (λ y z. y *ℤ z) high-a (to_z_pos w64 (omega (arith, small)))
 
   part : to_z w64 (of_z w64 (to_z w64 (of_z w64 a.high) *ℤ to_z w64 m)) ≡ a.high *ℤ pos m
-  part = ap (λ z. to_z w64 (of_z w64 z)) factors ∙ to_z-of_z (Size.fits part-within tt)
+  part = ap (λ z. to_z w64 (of_z w64 z)) factors ∙ to_z-of_z {w = w64} (Size.fits part-within tt)
 
   carry : to_z w64 (of_z w64 rest.high) ≡ rest.high
-  carry = to_z-of_z (Size.fits carry-within tt)
+  carry = to_z-of_z {w = w64} (Size.fits carry-within tt)
 
   both : to_z w64 (of_z w64 (to_z w64 (of_z w64 a.high) *ℤ to_z w64 m)) +ℤ to_z w64 (of_z w64 rest.high) ≡ a.high *ℤ pos m +ℤ rest.high
   both = ap₂ (λ y z. y +ℤ z) part carry
 
 pub returns : goal.returns
 returns c =
-    ap (λ h. h *ℤ pos (2 ^ 64) +ℤ pos (rest c).low) (ap (λ z. to_z w64 (of_z w64 z)) (both c) ∙ to_z-of_z (Size.fits (part-within c ⟨+⟩ carry-within c) tt))
+    ap (λ h. h *ℤ pos (2 ^ 64) +ℤ pos (rest c).low) (ap (λ z. to_z w64 (of_z w64 z)) (both c) ∙ to_z-of_z {w = w64} (Size.fits (part-within c ⟨+⟩ carry-within c) tt))
     ∙ solve 4 (λ h m r l. (h ⊗ m ⊕ r) ⊗ # (2 ^ 64) ⊕ l ≐ h ⊗ m ⊗ # (2 ^ 64) ⊕ (r ⊗ # (2 ^ 64) ⊕ l)) tt (a c).high (pos (m c)) (rest c).high (pos (rest c).low)
     ∙ ap (λ v. (a c).high *ℤ pos (m c) *ℤ pos (2 ^ 64) +ℤ v) c.small_product-rest.ensures
     ∙ solve 3 (λ h m l. h ⊗ m ⊗ # (2 ^ 64) ⊕ l ⊗ m ≐ (h ⊗ # (2 ^ 64) ⊕ l) ⊗ m) tt (a c).high (pos (m c)) (pos (a c).low)

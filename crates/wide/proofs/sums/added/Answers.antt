@@ -1,8 +1,6 @@
 -- `added` meets its contract.
 use mathlib.Core.Path.{◌≡◌, ◌∙◌, ap}
 use lib.IntN.{◌+ℤ◌}
-use mir.Syntax.{w64}
-use mir.Val.{to_z, of_z}
 use mir.Facts.{to_z-of_z}
 use Rattle.integers.specs.Size.{wide}
 use Rattle.model.specs.Wide.{value}

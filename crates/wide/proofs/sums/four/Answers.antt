@@ -1,10 +1,10 @@
 -- `four` meets its contract: one number after the other is added.
 use mathlib.Core.Path.{◌≡◌, ◌∙◌, ap₂}
 use mathlib.Core.List.{List, [], ◌∷◌}
-use Prim.Native.Nat.{ℕ, ◌^◌}
+use Prim.Native.Nat.{◌^◌}
 use lib.IntN.{ℤ, ◌+ℤ◌}
 use mir.Syntax.{w64}
-use Rattle.integers.specs.Size.{◌within◌, wide}
+use Rattle.integers.specs.Size.{wide}
 use Rattle.integers.specs.Machine.{var, ◌⊞◌, Within, sized, result, held-within}
 use Rattle.model.specs.Wide.{value}
 use Rattle.wide.proofs.sums.four.Goals as goal
