@@ -226,7 +226,8 @@ class Turned:
 
         def field(m):
             head, name = m[1], m[2]
-            return head + "." + self.fields.get(norm(name), name)
+            new = self.fields.get(norm(name), name)
+            return m[0] if head == ")" and re.fullmatch(re.escape(name) + r"-\d+", new) else head + "." + new
 
         text = re.sub(rf"\.({IDENT})\.(?:new|last)((?:\.1)*)\.0(?![\w-])", self.written, text)
         stepped = set(re.findall(r"abbrev (\S+) : (?:goal\.|tie\.|lts\.)?(?:Start|In-|After-|At-|Then-|Else-|Joined-)", text)) | set(re.findall(r"let (\S+) = [^\s.]+(?:\.before)+ in", text))
@@ -238,6 +239,7 @@ class Turned:
             text = re.sub(rf"\.{re.escape(new)}\.inv(?![\w-])", f".{new}.invariant", text)
             text = re.sub(rf"\.{re.escape(new)}\.taken(?![\w-])", f".{new}.true", text)
             text = re.sub(rf"\.{re.escape(new)}\.left(?![\w-])", f".{new}.false", text) if new.startswith("if-") or new.endswith("-test") else text
+        text = re.sub(r"(\.(?:args|ranges|well_formed)\.)([\w-]+)", lambda m: m[1] + m[2].replace("-", "_"), text)
         for old, new in ((r"\.pre(?![\w-])", ".requires"), (r"\.good(?![\w-])", ".well_formed"), (r"\.type-inv(?![\w-])", ".type_inv")):
             text = re.sub(old, new, text)
         return re.sub(r"(?:\.before)+(?=\.(?!before\b))", "", text)
@@ -263,6 +265,8 @@ class Turned:
                 m = re.match(r"(?:pub |abbrev )*(\S+) :.* goal\.(\S+)$", line)
                 if m:
                     scope = {None: m[2]}
+                elif re.match(rf"(?:pub |abbrev |module )*\S+ (?::|\()", line):
+                    scope = {}
                 elif None in scope and not line.startswith("unfolding"):
                     name = line.split()
                     scope = {None: scope[None], **({name[1]: self.asked.get(scope[None])} if len(name) > 1 else {})}
@@ -395,6 +399,8 @@ class Turned:
                 if m:
                     place = self.asked.get(m[2])
                     head = {}
+                elif re.match(rf"(?:pub |abbrev |module )*\S+ (?::|\()", line):
+                    place, head = None, {}
                 elif place and not line.startswith("unfolding"):
                     name = line.split()
                     head = {name[1]: place} if len(name) > 1 and name[1] != "=" else {}

@@ -11,7 +11,7 @@ abbrev body : Code
 body = cast w32 (var 0) ⊞ var 1 ⊠ (var 2 ⊟ var 3)
 
 ρ : (c : Start)
-    → (let a = c.args in Env (a.contact ∷ a.gradient ∷ a.delta ∷ a.finger-delta ∷ []) (2 ^ 31 ∷ 255 ∷ move_size ∷ 2 ^ 44 ∷ []) (pred (2 ^ 31) ∷ 255 ∷ move_size ∷ 2 ^ 44 ∷ []))
+    → (let a = c.args in Env (a.contact ∷ a.gradient ∷ a.delta ∷ a.finger_delta ∷ []) (2 ^ 31 ∷ 255 ∷ move_size ∷ 2 ^ 44 ∷ []) (pred (2 ^ 31) ∷ 255 ∷ move_size ∷ 2 ^ 44 ∷ []))
 ρ c = c.ranges.contact ▸ c.requires.0 ▹ c.requires.1 ▹ c.requires.2 ▹ ∅
 
 pub returns : goal.returns

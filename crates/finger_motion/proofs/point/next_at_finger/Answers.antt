@@ -39,7 +39,7 @@ pub new_finger-next-requires : goal.new_finger-next-requires
 new_finger-next-requires c = let r = ρ c.before.before.before.before.before in (held-within r w64 (var 2) tt, held-within r w64 (var 3) tt, held-within r w64 (var 4) tt)
 
 abbrev start : After-new_finger-next → Start
-start c = c.before.before.before.before.before.before
+start c = c.before.before.before.before.before
 
 next_is : (c : After-new_finger-next) → (let a = start c in c.new_finger-next.result ≡ record { height = a.args.finger.older +ℤ (worked a).finger_delta; contact = a.args.finger.contact +ℤ (worked a).gradient *ℤ ((worked a).delta -ℤ (worked a).finger_delta) })
 next_is c =

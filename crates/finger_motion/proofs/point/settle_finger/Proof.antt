@@ -163,7 +163,7 @@ returns r =
     let d = c.before in
     r.next_at_finger.ensures ∙ (λ i. record {
       delta = (worked_is c i).delta;
-      contact = variable_is d i -ℤ (worked_is c i).own-1 *ℤ (worked_is c i).delta;
+      contact = variable_is d i -ℤ (worked_is c i).own *ℤ (worked_is c i).delta;
       height = (finger_is d i).older +ℤ (worked_is c i).finger_delta;
       finger_contact = (finger_is d i).contact +ℤ (worked_is c i).gradient *ℤ ((worked_is c i).delta -ℤ (worked_is c i).finger_delta);
     })
