@@ -22,10 +22,10 @@ use Rattle.laws.specs.Accepted.{setup-facts}
 use Rattle.laws.specs.EnergySizes.{Strings, Held, change-within, height-within, energy-size, moving_loss, moving-size, work-within}
 use Rattle.book.specs.Entering.{left_over}
 use Rattle.booked_step.specs.Booking.{work_of}
-use Rattle.booked_step.proofs.booking.book_step.Statement.{statement}
-use Rattle.booked_step.proofs.booking.book_step.Tie as tie
+use Rattle.booked_step.proofs.booking.book_step.Goals as goal
+use Rattle.booked_step.proofs.booking.book_step.Goals.{After-step_work-work, Start}
 
-module _ (k : tie.Start) where
+module _ (k : Start) where
   abbrev s : Setup
   s = k.args.setup
 
@@ -42,22 +42,22 @@ module _ (k : tie.Start) where
   F = record { pluck = k.args.pluck; finger = k.args.force }
 
   held : Held s y
-  held = k.pre.0
+  held = k.requires.0
 
   across : Strings y.newer v
-  across = k.pre.1
+  across = k.requires.1
 
   pluck-within : F.pluck within 1073741824
   unfolding force_ok
-  pluck-within = inside-within 1073741824 F.pluck k.pre.4
+  pluck-within = inside-within 1073741824 F.pluck k.requires.4
 
   force-within : F.finger within 1073741824
   unfolding force_ok
-  force-within = inside-within 1073741824 F.finger k.pre.5
+  force-within = inside-within 1073741824 F.finger k.requires.5
 
   before-within : k.args.height within 1048576
   unfolding displacement_ok
-  before-within = inside-within 1048576 k.args.height k.pre.6
+  before-within = inside-within 1048576 k.args.height k.requires.6
 
   ρ : Within (F.pluck ∷ F.finger ∷ y.finger.newer ∷ k.args.height ∷ []) (1073741824 ∷ 1073741824 ∷ 1048576 ∷ 1048576 ∷ [])
   ρ = pluck-within ▹ force-within ▹ height-within held ▹ before-within ▹ ∅
@@ -73,42 +73,42 @@ module _ (k : tie.Start) where
   loss = moving_loss s (minus y.newer v) +ℤ k.args.released
 
   loss-size : loss within 2 ^ 64
-  loss-size = wide (moving-size (setup-facts s held.setup) across ⟨+⟩ k.pre.3) tt
+  loss-size = wide (moving-size (setup-facts s held.setup) across ⟨+⟩ k.requires.3) tt
 
-module _ (c : tie.After-step-work) where
-  abbrev a : tie.Start
+module _ (c : After-step_work-work) where
+  abbrev a : Start
   a = c.before.before.before.before
 
-  after_is : value c.before.before.before.stored-energy.result ≡ stored_energy (s a) (y a)
-  after_is = c.before.before.before.stored-energy.ensures
+  after_is : value c.stored_energy-after.result ≡ stored_energy (s a) (y a)
+  after_is = c.stored_energy-after.ensures
 
-  loss_is : value c.before.before.step-loss.result ≡ loss a
-  loss_is = c.before.before.step-loss.ensures ∙ ap (λ z. moving_loss (s a) (minus (y a).newer (v a)) +ℤ z) (to_z-of_z a.fits.released)
+  loss_is : value c.step_loss-loss.result ≡ loss a
+  loss_is = c.step_loss-loss.ensures ∙ ap (λ z. moving_loss (s a) (minus (y a).newer (v a)) +ℤ z) (to_z-of_z a.ranges.released)
 
-  work_is : to_z w64 (of_z w64 c.step-work.result) ≡ work a
+  work_is : to_z w64 (of_z w64 c.step_work-work.result) ≡ work a
   unfolding work_of
   work_is =
       let r = ρ a in
-      to_z-of_z (record { sfits = c.step-work.type-inv })
-      ∙ (rw (result r w32 (var 0) tt, result r w32 (var 1) tt, result r w32 (var 2) tt, result r w32 (var 3) tt) at c.step-work.ensures)
+      to_z-of_z {w = w64} (record { sfits = c.step_work-work.type_inv })
+      ∙ (rw (result r w32 (var 0) tt, result r w32 (var 1) tt, result r w32 (var 2) tt, result r w32 (var 3) tt) at c.step_work-work.ensures)
 
-step-work-requires : tie.Need-step-work-requires
-step-work-requires c κs =
-    let k = c.before.before.before in
+pub step_work-work-requires : goal.step_work-work-requires
+step_work-work-requires c =
+    let k = c.before.before.before.before in
     let r = ρ k in
     ((held k).setup, across k, (held k).newer-length, rw (result r w32 (var 0) tt) k.requires.4, rw (result r w32 (var 1) tt) k.requires.5, rw (result r w32 (var 2) tt) (held k).range.height, rw (result r w32 (var 3) tt) k.requires.6)
 
-with-step-requires : tie.Need-with-step-requires
-with-step-requires c κs =
+pub with_step-requires : goal.with_step-requires
+with_step-requires c =
     let k = a c in
-    (record { before = k.pre.2; after = rw (after_is c) (energy-size (held k)); work = rw (work_is c) (work-size k); loss = rw (loss_is c) (loss-size k) }, k.pre.7, k.pre.8)
+    (record { before = k.requires.2; after = rw (after_is c) (energy-size (held k)); work = rw (work_is c) (work-size k); loss = rw (loss_is c) (loss-size k) }, k.requires.7, k.requires.8)
 
-returns : tie.Need-returns
+pub returns : goal.returns
 unfolding left_over
 returns c =
     let d = c.before in
     let k = a d in
-    c.with-step.ensures ∙ (λ i. record {
+    c.with_step.ensures ∙ (λ i. record {
       stored = after_is d i;
       work = value (b k).work +ℤ work_is d i;
       loss = value (b k).loss +ℤ loss_is d i;
@@ -116,10 +116,8 @@ returns c =
       count = (b k).count + 1;
     })
 
-pub book-step-spec : {M : Type 1} → statement M
-book-step-spec = tie.close (tie.spec
-    (λ c κs. held c)
-    (λ c κs. let k = c.before in ((held k).setup, across k, rw (to_z-of_z k.ranges.released) k.requires.3))
-    step-work-requires
-    with-step-requires
-    returns)
+pub stored_energy-after-requires : goal.stored_energy-after-requires
+stored_energy-after-requires c = held c
+
+pub step_loss-loss-requires : goal.step_loss-loss-requires
+step_loss-loss-requires c = let k = c.before in ((held k).setup, across k, rw (to_z-of_z k.ranges.released) k.requires.3)
