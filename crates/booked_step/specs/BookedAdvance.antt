@@ -15,7 +15,6 @@ use Rattle.model.specs.declared.BookedAnswer.{BookedAnswer}
 use Rattle.model.specs.declared.BookedAnswer.TheVariants.{Accepted, Refused}
 use Rattle.model.specs.declared.Stepped.{Stepped}
 use Rattle.model.specs.declared.StepAnswer.{StepAnswer}
-use Rattle.model.specs.declared.StepAnswer.TheVariants as StepAnswer
 use Rattle.promises.specs.Promises.{Passed}
 use Rattle.laws.specs.Accepted.{StepFacts, examined}
 use Rattle.laws.specs.Booking.{ready_held}

@@ -5,7 +5,6 @@ use Rattle.model.specs.Setup.{e}
 use Rattle.model.specs.Differences.{at, minus}
 use Rattle.model.specs.State.{State, Neck, Forces}
 use Rattle.model.specs.Step.{cleared, worked_step}
-use Rattle.model.specs.Energy as Energy
 use Rattle.model.specs.Energy.{stored_energy, dot_all}
 use Rattle.model.specs.Book.{Columns, with_step}
 use Rattle.model.specs.declared.Setup.{Setup}

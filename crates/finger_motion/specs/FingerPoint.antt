@@ -7,7 +7,6 @@ use Rattle.model.specs.Ranges.{force_ok}
 use Rattle.model.specs.Setup.{p}
 use Rattle.model.specs.Differences.{at}
 use Rattle.model.specs.State.{State, Forces, PointsAndFinger}
-use Rattle.model.specs.Step.{gradients}
 use Rattle.model.specs.declared.Finger.{Finger}
 use Rattle.model.specs.declared.Setup.{Setup}
 use Rattle.laws.specs.LastMoves.{last_pair, last-pair-stays, point_move, finger_move, free_at, pair_at, move_at, move_at_finger, contact_at_finger, finger_move_at, finger_contact_at}

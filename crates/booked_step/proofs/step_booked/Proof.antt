@@ -12,7 +12,7 @@ use mir.Facts.{to_z-of_z}
 use Rattle.model.specs.Ranges.{all, force_ok}
 use Rattle.model.specs.Refusal.{Rule, first_of}
 use Rattle.model.specs.Setup.{setup_rules}
-use Rattle.model.specs.State.{State, Lent, state_of, Neck, Forces}
+use Rattle.model.specs.State.{Lent, state_of, Neck, Forces}
 use Rattle.model.specs.Step.{worked_step, next_state, call_rules, result_rules, forces_rule}
 use Rattle.model.specs.Book.{columns, count_rule, columns_rule}
 use Rattle.model.specs.Booking.{booked_rules, booked_step}

@@ -4,7 +4,7 @@ use mathlib.Core.List.{[], ◌∷◌}
 use lib.IntN.{ℤ, pos, ◌+ℤ◌, ◌-ℤ◌, ◌*ℤ◌, +ℤ_idr}
 use lib.Signed.{quot_z, rem_z, shr_z, ◌<ℤ◌}
 use Rattle.integers.specs.Solve.{◌⊕◌, ◌⊖◌, ◌⊗◌, ⊝◌, #◌, ◌≐◌}
-use Rattle.integers.specs.Derive.{◌≼◌, ◌≺◌, ◌⊢◌, times, equal, deduce}
+use Rattle.integers.specs.Derive.{◌≺◌, ◌⊢◌, times, equal, deduce}
 use Rattle.integers.specs.Division.{Divided, divided}
 use Rattle.model.specs.Rounding.{floor, nearest}
 use Rattle.laws.specs.Nearest.{nearer, tied, nearest-from}

@@ -1,7 +1,7 @@
 -- The older string is kept, the step is made, and its book is worked out from the states before and after it.
 use mathlib.Core.Path.{◌≡◌, refl, sym, ◌∙◌, ap, ap₂, subst}
 use mathlib.Core.List.{List, [], ◌∷◌}
-use Prim.Native.Nat.{ℕ, ◌≤◌, ◌^◌}
+use Prim.Native.Nat.{◌≤◌, ◌^◌}
 use native.Mathlib.Omega.{arith}
 use borrow.Author.Rules.{rules}
 use lib.Dec.{T, lit<}
@@ -14,8 +14,6 @@ use mir.Facts.{to_z-of_z, and_yes}
 use Rattle.integers.specs.Bits.{back}
 use Rattle.integers.specs.Size.{◌within◌}
 use Rattle.model.specs.Ranges.{all, displacement_ok, force_ok}
-use Rattle.model.specs.Refusal.{Answer, accepted, refused}
-use Rattle.model.specs.Setup.{points}
 use Rattle.model.specs.State.{State, Neck, Forces}
 use Rattle.model.specs.Step.{clear, cleared, worked_step, next_state}
 use Rattle.model.specs.Energy.{stored_energy, dot_all}
@@ -25,16 +23,15 @@ use Rattle.model.specs.declared.Setup.{Setup}
 use Rattle.model.specs.declared.Book.{Book}
 use Rattle.model.specs.declared.Stepped.{Stepped}
 use Rattle.model.specs.declared.StepAnswer.{StepAnswer}
-use Rattle.model.specs.declared.StepAnswer.TheVariants as StepAnswer
 use Rattle.laws.specs.Accepted.{setup-facts, right-lengths}
-use Rattle.laws.specs.Advance.{Advanced, step_answer, advanced_result, advance}
+use Rattle.laws.specs.Advance.{Advanced, advanced_result, advance}
 use Rattle.laws.specs.Ready.{Ready}
 use Rattle.laws.specs.Sizes.{inside-within}
 use Rattle.laws.specs.Booking.{ready_held, ready-examined}
 use Rattle.laws.specs.EnergySizes.{Strings, Held, strings, few-contacts, energy-size, finger-within, released-size}
 use Rattle.energy.specs.Parts.{released_is}
 use Rattle.booked_step.specs.Booking.{Before, with_parts, before, books-step}
-use Rattle.booked_step.specs.BookedAdvance.{booked_advance, booked_advanced_result, if_accepted, Made, made}
+use Rattle.booked_step.specs.BookedAdvance.{booked_advance, if_accepted, Made, made}
 use Rattle.booked_step.proofs.advance.booked_advance.Statement.{statement}
 use Rattle.booked_step.proofs.advance.booked_advance.Tie as tie
 

@@ -1,9 +1,8 @@
 -- Stored energy, loss and work are worked out, and are small enough to be entered.
-use mathlib.Core.Path.{◌≡◌, ◌∙◌, ap, ap₂}
+use mathlib.Core.Path.{◌≡◌, ◌∙◌, ap}
 use mathlib.Core.List.{List, [], ◌∷◌}
-use Prim.Native.Nat.{ℕ, ◌+◌, ◌^◌}
-use borrow.Author.Rules.{rules}
-use lib.IntN.{ℤ, pos, ◌+ℤ◌, ◌-ℤ◌, ◌*ℤ◌}
+use Prim.Native.Nat.{◌+◌, ◌^◌}
+use lib.IntN.{ℤ, ◌+ℤ◌, ◌-ℤ◌}
 use mir.Syntax.{w32, w64}
 use mir.Val.{to_z, of_z}
 use mir.Facts.{to_z-of_z}
@@ -11,7 +10,7 @@ use Rattle.integers.specs.Size.{◌within◌, ◌⟨+⟩◌, ◌⟨-⟩◌, wide
 use Rattle.integers.specs.Machine.{var, Within, ∅, ◌▹◌, result}
 use Rattle.model.specs.Ranges.{displacement_ok, force_ok}
 use Rattle.model.specs.Setup.{e}
-use Rattle.model.specs.Differences.{at, minus}
+use Rattle.model.specs.Differences.{minus}
 use Rattle.model.specs.State.{State, Forces}
 use Rattle.model.specs.Energy.{stored_energy}
 use Rattle.model.specs.declared.Setup.{Setup}

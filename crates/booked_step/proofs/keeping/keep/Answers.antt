@@ -1,15 +1,11 @@
 -- The numbers below index i are copied.
 use mir.Syntax.{w32}
-use mathlib.Core.Path.{refl, sym, ◌∙◌}
-use mathlib.Core.List.{List}
-use Prim.Native.Nat.{ℕ, suc, ◌-◌, ◌<◌}
+use mathlib.Core.Path.{refl, ◌∙◌}
+use Prim.Native.Nat.{◌<◌}
 use native.Mathlib.Omega.{arith}
-use borrow.Author.Rules.{rules, sfits_of}
-use lib.IntN.{ℤ, pos}
-use lib.ListN.{length, take}
+use borrow.Author.Rules.{sfits_of}
 use mir.Facts.{to_z-of_z}
-use Rattle.integers.specs.Filled.{Filled, filled_none, filled_more, filled-first}
-use Rattle.model.specs.Differences.{at}
+use Rattle.integers.specs.Filled.{filled_none, filled_more, filled-first}
 use Rattle.laws.specs.Strings.{by-places}
 use Rattle.booked_step.proofs.keeping.keep.Goals as goal
 use Rattle.booked_step.proofs.keeping.keep.Goals.{In-loop-i}

@@ -10,5 +10,5 @@ pub returns : goal.returns
 returns c =
     c.bent_row.ensures
     ∙ ap (bent_row c.args.setup)
-        (c.bend_booked-answer.ensures
-        ∙ ap (λ s. booked_bend s (lent_with c.args.turn c.args.finger c.args.first.now c.args.second.now c.args.contact.now) (columns c.args.book) c.args.tension) c.setup_of.ensures)
+    (c.bend_booked-answer.ensures
+    ∙ ap (λ s. booked_bend s (lent_with c.args.turn c.args.finger c.args.first.now c.args.second.now c.args.contact.now) (columns c.args.book) c.args.tension) c.setup_of.ensures)

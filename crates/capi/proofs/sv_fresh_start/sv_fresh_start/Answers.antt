@@ -1,6 +1,5 @@
 -- `sv_fresh_start` meets its contract: the row of the fresh start with the setup that the row says, and the buffers that it leaves.
 use mathlib.Core.Path.{◌≡◌, ◌∙◌, ap, ap₂}
-use borrow.Author.Rules.{rules}
 use mir.Syntax.{w32}
 use mir.Val.{to_z, of_z}
 use mir.Facts.{to_z-of_z}

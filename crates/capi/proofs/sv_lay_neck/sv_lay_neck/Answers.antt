@@ -21,6 +21,6 @@ pub returns : goal.returns
 returns c =
     ap (with_buffers c.lay_neck.new.heights c.lay_neck.new.stiffness) c.neck_number.ensures
     ∙ ap neck_call
-        (c.lay_neck.ensures
-        ∙ ap₂ (λ s tip. lay s (plan_with c.args.board.now c.args.board_stiffness c.args.frets.now c.args.fret_stiffness tip) c.args.heights.now c.args.stiffness.now) c.setup_of.ensures
-            (to_z-of_z {w = w32} c.ranges.tip))
+    (c.lay_neck.ensures
+    ∙ ap₂ (λ s tip. lay s (plan_with c.args.board.now c.args.board_stiffness c.args.frets.now c.args.fret_stiffness tip) c.args.heights.now c.args.stiffness.now) c.setup_of.ensures
+    (to_z-of_z {w = w32} c.ranges.tip))

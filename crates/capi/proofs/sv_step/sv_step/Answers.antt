@@ -38,4 +38,4 @@ returns c =
     called c.args.turn c.args.finger c.step-answer.result after.first after.second after.contact (c.step_row.ensures after.first after.second after.contact)
     (c.step-answer.ensures
     ∙ ap₂ (λ s F. Steps.step s (record { heights = c.args.heights.now; stiffness = c.args.stiffness.now }) (lent_with c.args.turn c.args.finger c.args.first.now c.args.second.now c.args.contact.now) F) c.setup_of.ensures
-        (ap₂ (λ pluck force. record { pluck = pluck; finger = force }) (to_z-of_z {w = w32} c.ranges.pluck) (to_z-of_z {w = w32} c.ranges.finger_force)))
+    (ap₂ (λ pluck force. record { pluck = pluck; finger = force }) (to_z-of_z {w = w32} c.ranges.pluck) (to_z-of_z {w = w32} c.ranges.finger_force)))

@@ -13,7 +13,7 @@ use Rattle.model.specs.declared.Book.{Book}
 use Rattle.model.specs.declared.BookedAnswer.{BookedAnswer}
 use Rattle.model.specs.declared.BookedAnswer.TheVariants.{Accepted, Refused}
 use Rattle.laws.specs.Call.{lent_with}
-use Rattle.rows.specs.Rows.{BookedView, booked_view, booked_row}
+use Rattle.rows.specs.Rows.{BookedView, booked_row}
 use Rattle.capi.specs.Calls.{BookedCall, booked_call}
 use Rattle.capi.proofs.sv_step_booked.sv_step_booked.Goals as goal
 
@@ -39,4 +39,4 @@ returns c =
     called c.args.turn c.args.finger c.args.book c.step_booked-answer.result after.first after.second after.contact (c.booked_row.ensures after.first after.second after.contact)
     (c.step_booked-answer.ensures
     ∙ ap₂ (λ s F. booked_step s (record { heights = c.args.heights.now; stiffness = c.args.stiffness.now }) (lent_with c.args.turn c.args.finger c.args.first.now c.args.second.now c.args.contact.now) (columns c.args.book) F) c.setup_of.ensures
-        (ap₂ (λ pluck force. record { pluck = pluck; finger = force }) (to_z-of_z {w = w32} c.ranges.pluck) (to_z-of_z {w = w32} c.ranges.finger_force)))
+    (ap₂ (λ pluck force. record { pluck = pluck; finger = force }) (to_z-of_z {w = w32} c.ranges.pluck) (to_z-of_z {w = w32} c.ranges.finger_force)))

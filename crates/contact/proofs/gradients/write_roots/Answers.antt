@@ -1,10 +1,10 @@
 -- `write_roots` meets its contract.
 use mathlib.Core.Path.{◌≡◌, sym, ◌∙◌, ap, subst}
-use Prim.Native.Nat.{ℕ, ◌-◌, ◌≤◌, ◌<◌}
+use Prim.Native.Nat.{ℕ, ◌≤◌, ◌<◌}
 use native.Mathlib.Nat.{le_refl}
 use native.Mathlib.Omega.{arith}
 use lib.ListN.{get_or}
-use Rattle.integers.specs.Filled.{Rewritten, rewritten-none, rewritten-more}
+use Rattle.integers.specs.Filled.{rewritten-none, rewritten-more}
 use Rattle.model.specs.Gradient.{root}
 use Rattle.contact.proofs.gradients.write_roots.Goals as goal
 use Rattle.contact.proofs.gradients.write_roots.Goals.{In-loop-j, Start}

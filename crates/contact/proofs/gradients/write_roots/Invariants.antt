@@ -1,10 +1,7 @@
 -- The loop's invariant: the first j numbers have become their roots, and the rest are as they were.
-use mathlib.Core.Path.{◌≡◌, sym, ◌∙◌, ap, subst}
-use Prim.Native.Nat.{ℕ, ◌-◌, ◌≤◌, ◌<◌}
-use native.Mathlib.Nat.{le_refl}
-use native.Mathlib.Omega.{arith}
+use Prim.Native.Nat.{◌-◌}
 use lib.ListN.{get_or}
-use Rattle.integers.specs.Filled.{Rewritten, rewritten-none, rewritten-more}
+use Rattle.integers.specs.Filled.{Rewritten}
 use Rattle.model.specs.Gradient.{root}
 use Rattle.contact.proofs.gradients.write_roots.Given as goal
 

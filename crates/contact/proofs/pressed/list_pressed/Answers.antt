@@ -1,8 +1,8 @@
 -- `list_pressed` meets its contract.
 use mathlib.Core.Path.{◌≡◌, sym, subst}
-use Prim.Native.Nat.{ℕ, ◌-◌, ◌≤◌, ◌<◌, ◌+◌}
+use Prim.Native.Nat.{ℕ, ◌<◌, ◌+◌}
 use native.Mathlib.Omega.{arith}
-use borrow.Author.Rules.{rules, sfits_of}
+use borrow.Author.Rules.{sfits_of}
 use lib.IntN.{ℤ, pos}
 use lib.ListN.{length, get_or, set}
 use mir.Syntax.{w32}
@@ -54,9 +54,9 @@ module _ (c : Joined-newer-i) where
 
   next : Next c.if-newer-i.count
   next = elim c.if-newer-i.branch [
-        | then-newer-i w ↦ subst Next (sym w.count-is) (listed_more (listed turn) (let l = point turn in omega arith) (below_true own height (below_at w32 _ own height w.if-newer-i.true own-fits height-fits)))
-        | else-newer-i w ↦ subst Next (sym w.count-is) (listed_same (listed turn) (let l = point turn in omega arith) (below_false own height (below_at w32 _ own height w.if-newer-i.false own-fits height-fits)))
-      ]
+    | then-newer-i w ↦ subst Next (sym w.count-is) (listed_more (listed turn) (let l = point turn in omega arith) (below_true own height (below_at w32 _ own height w.if-newer-i.true own-fits height-fits)))
+    | else-newer-i w ↦ subst Next (sym w.count-is) (listed_same (listed turn) (let l = point turn in omega arith) (below_false own height (below_at w32 _ own height w.if-newer-i.false own-fits height-fits)))
+  ]
 
 pub returns : goal.returns
 returns c =

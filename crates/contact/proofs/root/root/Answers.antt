@@ -1,6 +1,5 @@
 -- `root` meets its contract: eight bits, each half of what the one before left open, find the root.
 use native.Mathlib.Omega.{arith}
-use borrow.Author.Rules.{rules}
 use Rattle.contact.specs.Halving.{root-open, root-found}
 use Rattle.contact.proofs.root.root.Goals as goal
 

@@ -2,7 +2,6 @@
 use Prim.Native.Nat.{◌≤◌, ◌+◌}
 use native.Mathlib.Nat.{mul-le-mul, lt_of_le_of_lt}
 use native.Mathlib.Omega.{arith}
-use borrow.Author.Rules.{rules}
 use lib.Dec.{lit<}
 use Rattle.contact.specs.Halving.{bit-set, bit-clear}
 use Rattle.contact.proofs.root.with_bit.Goals as goal

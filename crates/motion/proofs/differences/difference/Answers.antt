@@ -5,7 +5,7 @@ use lib.IntN.{pos}
 use lib.ListN.{get_or}
 use mir.Syntax.{w32, w64}
 use mir.Val.{SFits}
-use borrow.Author.Rules.{rules, sfits_of}
+use borrow.Author.Rules.{sfits_of}
 use Rattle.integers.specs.Machine.{Code, var, ◌⊟◌, cast, ∅, ◌▸◌, fits, result}
 use Rattle.laws.specs.Strings.{at-minus}
 use Rattle.motion.proofs.differences.difference.Goals as goal

@@ -7,7 +7,6 @@ use native.Mathlib.Omega.{arith}
 use lib.IntN.{ℤ, pos, ◌+ℤ◌, ◌-ℤ◌, ◌*ℤ◌}
 use lib.ListN.{length, get_or, get_or-eq_default}
 use mir.Syntax.{w32, w64}
-use mir.Facts.{to_z-of_z}
 use Rattle.integers.specs.Filled.{length-tabulate, get_d_tabulate}
 use Rattle.integers.specs.Solve.{◌⊕◌, ◌⊖◌, ◌⊗◌, #◌, ◌≐◌, solve}
 use Rattle.integers.specs.Size.{◌within◌, ◌⟨-⟩◌, num, wide}

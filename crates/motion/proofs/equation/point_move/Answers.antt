@@ -1,7 +1,6 @@
 -- `point_move` meets its contract: both sides of the division are scaled alike.
 use mathlib.Core.Path.{◌≡◌, sym, ◌∙◌, ap, ap₂, subst}
 use mathlib.Core.List.{[], ◌∷◌}
-use Prim.Native.Nat.{◌^◌}
 use lib.IntN.{ℤ, pos, ◌*ℤ◌}
 use lib.Signed.{◌<ℤ◌, lt_z_yes}
 use mir.Syntax.{w32, w64}

@@ -1,14 +1,14 @@
 -- `next_string` meets its contract.
 use mathlib.Core.Path.{◌≡◌, refl, sym, ◌∙◌, ap, subst}
 use mathlib.Core.List.{List, [], ◌∷◌}
-use Prim.Native.Nat.{ℕ, suc, ◌-◌, ◌<◌}
+use Prim.Native.Nat.{ℕ, suc, ◌<◌}
 use native.Mathlib.Nat.{le_refl}
 use native.Mathlib.Omega.{arith}
 use lib.IntN.{ℤ, pos, ◌+ℤ◌}
 use lib.ListN.{length, get_or, take}
 use mir.Syntax.{w32}
 use Rattle.integers.specs.Machine.{Code, var, ◌⊞◌, Within, ∅, ◌▹◌, result, fits}
-use Rattle.integers.specs.Filled.{Rewritten, rewritten-none, rewritten-more, filled-first}
+use Rattle.integers.specs.Filled.{rewritten-none, rewritten-more, filled-first}
 use Rattle.integers.specs.Size.{◌within◌}
 use Rattle.model.specs.Differences.{at, plus}
 use Rattle.laws.specs.MoveSizes.{move_size}

@@ -2,15 +2,14 @@
 use mir.Syntax.{w32}
 use mathlib.Core.Path.{refl, sym, ◌∙◌}
 use mathlib.Core.List.{List}
-use Prim.Native.Nat.{ℕ, suc, ◌-◌, ◌<◌}
+use Prim.Native.Nat.{ℕ, ◌<◌}
 use native.Mathlib.Omega.{arith}
 use borrow.Author.Rules.{sfits_of}
-use lib.IntN.{ℤ, pos}
-use lib.ListN.{length, take}
+use lib.IntN.{ℤ}
+use lib.ListN.{length}
 use mir.Facts.{to_z-of_z}
-use Rattle.integers.specs.Filled.{Filled, filled_none, filled_more}
+use Rattle.integers.specs.Filled.{filled_none, filled_more}
 use Rattle.integers.proofs.Filled.{filled-all}
-use Rattle.model.specs.Differences.{at}
 use Rattle.laws.specs.Strings.{by-places}
 use Rattle.motion.specs.Front.{front-spans, front_at}
 use Rattle.motion.proofs.next.write.Goals as goal

@@ -1,7 +1,6 @@
 -- `force_at` meets its contract: the comparison of places is `eqb`.
 use mathlib.Core.Path.{sym, ◌∙◌, ap}
 use mathlib.Core.Bool.{cond}
-use borrow.Author.Rules.{rules}
 use lib.Dec.{eqb}
 use lib.IntN.{pos}
 use mir.Facts.{to_z-of_z, yes_eqb, no_eqb}

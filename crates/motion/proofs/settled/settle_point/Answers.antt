@@ -2,21 +2,19 @@
 use mathlib.Core.Path.{◌≡◌, sym, ◌∙◌, ap, ap₂, subst}
 use mathlib.Core.Bool.{Bool, true, false, cond}
 use mathlib.Core.List.{[], ◌∷◌}
-use Prim.Native.Nat.{◌^◌}
 use lib.IntN.{ℤ, pos, ◌-ℤ◌, ◌*ℤ◌}
 use lib.Signed.{lt_z}
 use mir.Syntax.{w32, w64}
 use mir.Val.{SFits, to_z, of_z}
 use mir.Facts.{to_z-of_z}
-use Rattle.integers.specs.Bits.{wide_fits, narrow-fits, narrow_is}
-use Rattle.integers.specs.Machine.{Code, var, ♯◌, ◌⊟◌, ◌⊠◌, cast, done, Within, ∅, ◌▹◌, entry, fits, result, held-within}
+use Rattle.integers.specs.Bits.{wide_fits}
+use Rattle.integers.specs.Machine.{Code, var, ♯◌, ◌⊟◌, ◌⊠◌, cast, Within, ∅, ◌▹◌, entry, fits, result, held-within}
 use Rattle.integers.specs.Size as Size
 use Rattle.integers.specs.Size.{◌within◌, ◌⟨-⟩◌, num, wide}
 use Rattle.integers.specs.Solve.{◌⊖◌, ◌⊗◌, #◌, ◌≐◌, solve}
 use Rattle.integers.specs.Tests.{below}
-use Rattle.model.specs.Step.{left}
 use Rattle.laws.specs.LastMoves.{with_contact, settled_gradient, settled_move, settled_contact, left-by-test}
-use Rattle.laws.specs.MoveSizes.{SmallMove, move_size, change_size, away-small}
+use Rattle.laws.specs.MoveSizes.{SmallMove, move_size, away-small}
 use Rattle.laws.specs.Pulling.{move_by}
 use Rattle.laws.specs.Sizes.{side-size}
 use Rattle.motion.specs.MoveRanges.{point_sizes}

@@ -8,7 +8,7 @@ use lib.IntN.{ℤ, pos, ◌+ℤ◌, ◌-ℤ◌, ◌*ℤ◌}
 use mir.Syntax.{w32, w64}
 use Rattle.integers.specs.Solve.{◌⊕◌, ◌⊖◌, ◌⊗◌, #◌, ◌≐◌, solve}
 use Rattle.integers.specs.Size.{◌within◌, natural, num, ◌⟨+⟩◌, ◌⟨*⟩◌}
-use Rattle.integers.specs.Machine.{Code, var, nat, ♯◌, ◌⊞◌, ◌⊟◌, ◌⊠◌, Within, ∅, ◌▹◌, fits, result, held-within, answer}
+use Rattle.integers.specs.Machine.{Code, var, nat, ♯◌, ◌⊞◌, ◌⊟◌, ◌⊠◌, Within, ∅, ◌▹◌, fits, result, held-within}
 use Rattle.model.specs.Ranges.{displacement_ok}
 use Rattle.laws.specs.Sizes.{inside-within}
 use Rattle.laws.specs.Accepted.{SetupFacts, setup-facts}

@@ -1,7 +1,7 @@
 -- `weighted` meets its contract.
 use mathlib.Core.Path.{◌≡◌, refl, sym, ◌∙◌, ap}
 use mathlib.Core.List.{List}
-use Prim.Native.Nat.{ℕ, suc, ◌+◌, ◌-◌, ◌≤◌, ◌<◌}
+use Prim.Native.Nat.{ℕ, suc, ◌+◌, ◌≤◌, ◌<◌}
 use native.Mathlib.Numerals.{add-one}
 use native.Mathlib.Omega.{arith}
 use lib.Dec.{T}
@@ -10,7 +10,7 @@ use lib.ListN.{length, get_or}
 use mir.Syntax.{w32, w64}
 use mir.Val.{SFits, to_z, of_z}
 use mir.Facts.{to_z-of_z}
-use Rattle.integers.specs.Filled.{Begun, begun-none, begun-same, begun_more, begun_all}
+use Rattle.integers.specs.Filled.{begun-none, begun-same, begun_more, begun_all}
 use Rattle.model.specs.Ranges as Ranges
 use Rattle.model.specs.Ranges.{displacement_ok}
 use Rattle.model.specs.Setup.{L, M, S, points}

@@ -1,6 +1,5 @@
 -- `step_ready` meets its contract: by the turn, `advance` is given the strings in one order or the other.
 use mathlib.Core.Path.{◌∙◌, ap}
-use borrow.Author.Rules.{rules}
 use Rattle.model.specs.State.{Lent, state_of}
 use Rattle.laws.specs.Advance.{advance, with_strings, ready-first, ready-second, advanced-first, advanced-second}
 use Rattle.laws.specs.Call.{lent_with}
