@@ -10,7 +10,8 @@ use Rattle.model.specs.Energy.{stored_energy, dot_all}
 use Rattle.model.specs.Book.{Columns, with_step}
 use Rattle.model.specs.declared.Setup.{Setup}
 use Rattle.laws.specs.Accepted.{StepFacts}
-use Rattle.laws.specs.Booking.{work_is, loss_is, rounding-left}
+use Rattle.laws.specs.Booking.{work_is, loss_is}
+use Rattle.laws.proofs.Booking.{rounding-left}
 use Rattle.laws.specs.EnergySizes.{moving_loss}
 
 -- the work of forces, from the string v and the finger height w' before to the string u and the height w

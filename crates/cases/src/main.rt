@@ -5,43 +5,43 @@
 ghost use Rattle.std.specs.Prelude.{◌≡◌, length};
 
 mod arguments;
-mod block;
-mod booked_bend;
-mod booked_step;
+mod block_call;
+mod booked_bend_call;
+mod booked_step_call;
 mod changes;
-mod neck;
+mod neck_call;
 mod newest;
-mod reading;
+mod reading_call;
 mod report;
-mod setup;
-mod start;
-mod step;
+mod setup_call;
+mod start_call;
+mod step_call;
 mod words;
 
 // Answers the call of a line.
 fn answer(line: &[u8]) {
     if words::first_is(line, b"setup") {
-        setup::answer(line)
+        setup_call::answer(line)
     } else if words::first_is(line, b"bend") {
         changes::answer_bend(line)
     } else if words::first_is(line, b"bend_booked") {
-        booked_bend::answer(line)
+        booked_bend_call::answer(line)
     } else if words::first_is(line, b"slide") {
         changes::answer_slide(line)
     } else if words::first_is(line, b"neck") {
-        neck::answer(line)
+        neck_call::answer(line)
     } else if words::first_is(line, b"start") {
-        start::answer(line)
+        start_call::answer(line)
     } else if words::first_is(line, b"step") {
-        step::answer(line)
+        step_call::answer(line)
     } else if words::first_is(line, b"step_booked") {
-        booked_step::answer(line)
+        booked_step_call::answer(line)
     } else if words::first_is(line, b"block") {
-        block::answer(line)
+        block_call::answer(line)
     } else if words::first_is(line, b"newest") {
         newest::answer(line)
     } else if words::first_is(line, b"reading") {
-        reading::answer(line)
+        reading_call::answer(line)
     } else {
         printing::text(b"no such operation")
     }

@@ -1,6 +1,6 @@
 -- The list of f 0 .. f (n - 1), and a list that a loop fills with it from the front.
 use Rattle.std.specs.Prelude.{◌≡◌, refl, Bool, true, false, cond, List, [], ◌∷◌, ℕ, zero, suc, ◌+◌, min, ◌≤◌, ◌<◌, eqb, length, get_or, set, take, replicate}
-use Rattle.std.proofs.Common.{sym, ap, ◌∙◌, le_of_suc-le-suc, not-suc-le-zero, le_refl, le_of_eq, arith, length-set, length-take, ext_get_or, get_or-set_same, get_or-set_other, get_or-take, take_all, length-take-le, below_none, below_more}
+use Rattle.std.proofs.Common.{sym, ap, ◌∙◌, le_of_suc-le-suc, not-suc-le-zero, le_refl, arith, length-set, length-take, ext_get_or, get_or-set_same, get_or-set_other, get_or-take, length-take-le, below_none, below_more}
 use Rattle.std.proofs.Math.Decide.{dec_lt}
 use Rattle.std.proofs.Math.Facts.{eqb_yes, eqb_no}
 use Rattle.std.proofs.lemmas.List.{length-replicate}
@@ -48,10 +48,6 @@ module _ {A : Type 0} {d : A} {n : ℕ} {f : ℕ → A} where
       let e : length (take m l) ≡ m = length-take-le m l (omega (arith, F.len)) in
       ext_get_or d (take m l) (tabulate m f) (e ∙ sym (length-tabulate m f))
       (λ j g. get_or-take m l j d (omega arith) ∙ F.each j (omega arith) ∙ sym (get_d_tabulate m f d j (omega arith)))
-
-  -- and all of them
-  pub filled-all : {i : ℕ} {l : List A} → n ≤ i → Filled d n f i l → l ≡ tabulate n f
-  filled-all {i} {l} h F = sym (take_all n l (le_of_eq F.len)) ∙ filled-first h (le_refl n) F
 
 -- one of the first m elements of an array set anew
 pub tabulate-set : {A : Type 0} (d : A) (m : ℕ) (f : ℕ → A) (k : ℕ) (l : List A) (v : A) → k < m → take m l ≡ tabulate m f → take m (set l k v) ≡ tabulate m (λ j. cond (eqb (suc j) (suc k)) v (f j))

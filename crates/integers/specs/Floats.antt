@@ -1,11 +1,11 @@
 -- Whole numbers over a power of two as floats: rounding such a fraction changes nothing, and a float that has its value is that float.
 -- `HasValue x s a c` says that x is finite, has the sign s and is a / c in size.
 use Rattle.std.specs.Prelude.{◌≡◌, refl, Bool, true, false, cond, ℕ, suc, ◌+◌, ◌-◌, ◌*◌, ◌/◌, ◌^◌, ◌≤◌, ◌<◌, T, ℤ, pos, negsuc, nat_abs, Float}
-use Rattle.std.proofs.Common.{sym, ap, ap₂, ◌∙◌, le_refl, le_antisymm, le_of_lt, lt_of_lt_of_le, mul_assoc, mul_comm, mul_right_comm, one-mul, mul-pos, arith, lit<, lit≤, le→leb, lt→ltb, pow_pos, pow_mono, pow-add, shl_lt}
+use Rattle.std.proofs.Common.{sym, ap, ap₂, ◌∙◌, le_refl, le_antisymm, lt_of_lt_of_le, mul_assoc, mul_comm, mul_right_comm, one-mul, mul-pos, arith, lit<, lit≤, pow_pos, pow_mono, pow-add, shl_lt}
 use Rattle.std.specs.Float.{fin, inf, nan, Format, binary32, binary64}
-use Rattle.std.specs.Float.Ieee.{prec, low, hid, top, size, up, down, unlike, round, div, of_int, in_float, fits, to_bits, of_bits}
+use Rattle.std.specs.Float.Ieee.{prec, low, hid, top, size, up, down, unlike, round, div, of_int, fits, to_bits, of_bits}
 use Rattle.std.specs.Float.Ieee.Digits.{back}
-use Rattle.std.specs.Float.Ieee.Fits.{reach, down_pos, round-fits}
+use Rattle.std.specs.Float.Ieee.Fits.{reach, down_pos}
 use Rattle.std.specs.Float.Ieee.Exact.{HasValue, round_exact}
 use Rattle.std.specs.Float.Ieee.Back.{round_whole}
 use Rattle.std.specs.Float.Ieee.Scale.{round_same}
@@ -75,25 +75,10 @@ unique f x y s a c k p q h j = sym (of_bits-to_bits f x p) ∙ ap (of_bits f) (b
 
 -- ---- at 2 ^ 20, for numbers up to that
 
-small : (f : Format) {n : ℕ} → n ≤ 1048576 → n < 2 ^ prec f
+pub small : (f : Format) {n : ℕ} → n ≤ 1048576 → n < 2 ^ prec f
 small binary32 h = omega arith
 small binary64 h = omega arith
 
-deep : (f : Format) → 20 ≤ low f
+pub deep : (f : Format) → 20 ≤ low f
 deep binary32 = lit≤ tt
 deep binary64 = lit≤ tt
-
-pub fraction-exact : (f : Format) (s : Bool) (n : ℕ) → n ≤ 1048576 → HasValue (round f s n 1048576) s n 1048576
-fraction-exact f s n h = power-exact f s n 20 (small f h) (deep f)
-
-pub divide-exact : (f : Format) (z : ℤ) → nat_abs z ≤ 1048576 → div f (of_int f z) (fin false 1 (pos 20)) ≡ round f (negative z) (nat_abs z) 1048576
-divide-exact f z h = divide-power f z 20 (le_of_lt (small f h))
-
-pub fraction-unique : (f : Format) (x : Float) (s : Bool) (n : ℕ) → n ≤ 1048576 → T (fits f x) → HasValue x s n 1048576 → x ≡ round f s n 1048576
-fraction-unique f x s n h p v = unique f x (round f s n 1048576) s n 1048576 (lit< tt) p (round-fits f s n 1048576) v (fraction-exact f s n h)
-
--- what the cast of z to the format asks
-pub casts : (f : Format) (z : ℤ) → nat_abs z ≤ 1048576 → T (in_float f z)
-unfolding in_float
-casts f (pos n) h = le→leb n (2 ^ prec f) (le_of_lt (small f h))
-casts f (negsuc n) h = lt→ltb n (2 ^ prec f) (le_of_lt (small f h))

@@ -12,12 +12,12 @@ use Rattle.integers.specs.Solve.{◌⊕◌, ◌⊖◌, ◌≐◌, solve}
 use Rattle.integers.specs.Size.{◌within◌, ◌⟨+⟩◌, ◌⟨-⟩◌, wide}
 use Rattle.model.specs.Ranges.{all, force_ok}
 use Rattle.model.specs.Refusal.{first_of, Answer, accepted, refused, unless}
-use Rattle.model.specs.Setup.{e, points, length_ok, setup, setup_rules}
+use Rattle.model.specs.Setup.{e, length_ok, setup, setup_rules}
 use Rattle.model.specs.Changes.{with_tension, bend}
 use Rattle.model.specs.Differences.{at, plus, minus}
 use Rattle.model.specs.State.{State, Lent, state_of, put, Neck, Forces}
 use Rattle.model.specs.Step.{clear, cleared, worked_step, next_state, buffers_rule, call_rules, result_rules, step_rules, frame, StepResult, step}
-use Rattle.model.specs.Energy.{stored_energy, dot_all, released, work, loss, rounding_work}
+use Rattle.model.specs.Energy.{stored_energy, dot_all, released, work, loss}
 use Rattle.model.specs.Run.{Bend}
 use Rattle.model.specs.Book.{Columns, with_step, with_bend, count_rule, columns_rule}
 use Rattle.model.specs.Booking.{booked_rules, BookedResult, booked_step, bent_rules, BentResult, booked_bend}
@@ -31,8 +31,7 @@ use Rattle.laws.specs.Accepted.{setup-facts, Examined, examined, right-lengths, 
 use Rattle.laws.specs.Balance.{fit}
 use Rattle.laws.specs.Sizes.{inside-within}
 use Rattle.laws.specs.Ready.{Ready, ready-next}
-use Rattle.laws.specs.Run.{step-balance}
-use Rattle.laws.specs.EnergySizes.{Strings, Held, strings, change-within, height-within, older-height-within, energy-size, moving_loss, moving-size, released-size, work-within}
+use Rattle.laws.specs.EnergySizes.{Strings, Held, strings, change-within, height-within, older-height-within, moving_loss, moving-size, released-size, work-within}
 
 -- ---- a ready voice holds a state in range
 
@@ -71,13 +70,6 @@ module _ {s : Setup} {neck : Neck} {x : State} {F : Forces} {y : State} (h : Ste
   unfolding loss released moving_loss worked_step
   loss_is = ap (λ δ. moving_loss s δ +ℤ pos 2 *ℤ dot_all (cleared s neck x) (cleared s neck x)) moves-are
 
-  -- the rounding work is what the others leave: code needs no residuals for it
-  pub rounding-left : let t = worked_step s neck x F in rounding_work t ≡ stored_energy s y -ℤ stored_energy s x -ℤ work t +ℤ loss t
-  rounding-left =
-      let t = worked_step s neck x F in
-      solve 4 (λ e w l r. r ≐ e ⊕ w ⊖ l ⊕ r ⊖ e ⊖ w ⊕ l) tt (stored_energy s x) (work t) (loss t) (rounding_work t)
-      ∙ ap (λ z. z -ℤ stored_energy s x -ℤ work t +ℤ loss t) (sym (step-balance h))
-
   -- their sizes
   module _ (before : Held s x) (after : Held s y) where
     pub across : Strings y.newer x.older
@@ -91,9 +83,6 @@ module _ {s : Setup} {neck : Neck} {x : State} {F : Forces} {y : State} (h : Ste
     work-size =
         let forces = all_yes force_ok (F.pluck ∷ F.finger ∷ []) (fails 12 (step_rules s neck x F) h.passed) in
         rw work_is (work-within (inside-within 1073741824 F.pluck forces.0) (inside-within 1073741824 F.finger forces.1.0) (change-within across (e s)) (height-within after ⟨-⟩ older-height-within before))
-
-    pub rounding-size : rounding_work (worked_step s neck x F) within 2 ^ 67
-    rounding-size = rw rounding-left (wide (energy-size after ⟨-⟩ energy-size before ⟨-⟩ work-size ⟨+⟩ loss-size) tt)
 
   pub stored_next : let t = worked_step s neck x F in stored_energy t.setup (next_state t) ≡ stored_energy s y
   unfolding worked_step

@@ -5,7 +5,7 @@ use Rattle.std.specs.Int.Signed.{le_z}
 use Rattle.integers.specs.Sum.{sum-within}
 use Rattle.integers.specs.Size.{◌within◌, ◌⟨+⟩◌, ◌⟨-⟩◌, ◌⟨*⟩◌, num, natural, weaken, wide}
 use Rattle.model.specs.Ranges.{all, displacement_ok, contact_ok}
-use Rattle.model.specs.Setup.{S, Z, e, points, setup_rules}
+use Rattle.model.specs.Setup.{S, Z, points, setup_rules}
 use Rattle.model.specs.Differences.{at, minus, D1, dot, E}
 use Rattle.model.specs.State.{State, Neck}
 use Rattle.model.specs.Step.{depths, let_go, cleared}

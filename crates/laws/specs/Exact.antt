@@ -6,7 +6,8 @@ use Rattle.std.proofs.Math.Dec.{T}
 use Rattle.std.specs.Int.Signed.{lt_z, lt_z_yes}
 use Rattle.std.specs.Float.{Format, binary32, binary64}
 use Rattle.std.proofs.Math.Facts.{and_yes, T_not-not}
-use Rattle.integers.specs.Floats.{negative, fraction-exact}
+use Rattle.integers.specs.Floats.{negative}
+use Rattle.integers.proofs.Floats.{fraction-exact}
 use Rattle.model.specs.Ranges.{inside, all, height_ok, displacement_ok}
 use Rattle.model.specs.Refusal.{Rule, accepted}
 use Rattle.model.specs.Setup.{setup_rules}

@@ -1,6 +1,6 @@
 -- 02, item 7: one distance meets both conditions, and it is the nearest point's; frets never go back toward the nut, so that a list without a clash increases.
 use Rattle.std.specs.Prelude.{◌≡◌, refl, Bool, true, false, not, ◌||◌, ℕ, zero, suc, ◌+◌, ◌-◌, ◌*◌, ◌^◌, ◌≤◌, ◌<◌, T, leb, ltb, eqb}
-use Rattle.std.proofs.Common.{sym, ap, ◌∙◌, ⊎_elim, zero-le, eq-or-lt_of_le, le_refl, le_trans, lt_of_lt_of_le, not-le_of_lt, mul-le-mul_right, mul-le-mul_left, mul-one, pow_pos, pow_mono}
+use Rattle.std.proofs.Common.{⊎_elim, zero-le, eq-or-lt_of_le, le_refl, le_trans, lt_of_lt_of_le, not-le_of_lt, mul-le-mul_right, mul-le-mul_left, mul-one, pow_pos, pow_mono}
 use Rattle.std.proofs.Math.Nat.{le_antisymm, pow-le-pow_left, pow-lt-pow_left}
 use native.Mathlib.Omega.{arith}
 use Rattle.std.proofs.Math.Decide.{dec_lt}

@@ -1,4 +1,4 @@
--- Why document 01's voice is safe: theorems about the model. `Demands` has the proofs of the promises, the other files lead there.
+-- Why document 01's voice is safe: theorems about the model. The proofs of the promises, and what they can't do without, are in proofs/, in the file `Demands` there; these files lead to them.
 pub mod Refusals
 pub mod InRange
 pub mod Strings
@@ -17,7 +17,6 @@ pub mod Loss
 pub mod Changes
 pub mod Loose
 pub mod Symmetry
-pub mod Run
 pub mod Solved
 pub mod OnlyAbove
 pub mod Sizes
@@ -34,6 +33,3 @@ pub mod LongerSamples
 pub mod Playing
 pub mod Exact
 pub mod Frets
-pub mod Demands
-mod Witness
-mod SymmetryWitness

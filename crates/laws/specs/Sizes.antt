@@ -9,7 +9,7 @@ use Rattle.integers.specs.Derive.{◌≼◌, ◌≺◌, ◌⊢◌, times, deduce
 use Rattle.integers.specs.Order.{≤_trans, nonneg, nat_abs-between}
 use Rattle.integers.specs.Solve.{◌⊖◌, ⊝◌, #◌}
 use Rattle.integers.specs.Sum.{bend}
-use Rattle.integers.specs.Size.{◌within◌, ◌⟨+⟩◌, ◌⟨-⟩◌, ◌⟨*⟩◌, num, natural, weaken, wide, size}
+use Rattle.integers.specs.Size.{◌within◌, ◌⟨+⟩◌, ◌⟨-⟩◌, ◌⟨*⟩◌, num, natural, weaken, wide}
 use Rattle.model.specs.Ranges.{all, inside, displacement_ok, height_ok}
 use Rattle.model.specs.Setup.{e}
 use Rattle.model.specs.Differences.{at, minus, D1}

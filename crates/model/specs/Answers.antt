@@ -25,19 +25,12 @@ use Rattle.model.specs.declared.Setup.{Setup}
 use Rattle.model.specs.declared.Finger.{Finger}
 use Rattle.model.specs.declared.Book.{Book}
 use Rattle.model.specs.declared.SetupAnswer.{SetupAnswer}
-use Rattle.model.specs.declared.SetupAnswer.TheVariants as SetupAnswer
 use Rattle.model.specs.declared.NeckAnswer.{NeckAnswer}
-use Rattle.model.specs.declared.NeckAnswer.TheVariants as NeckAnswer
 use Rattle.model.specs.declared.FretsAnswer.{FretsAnswer}
-use Rattle.model.specs.declared.FretsAnswer.TheVariants as FretsAnswer
 use Rattle.model.specs.declared.StartAnswer.{StartAnswer}
-use Rattle.model.specs.declared.StartAnswer.TheVariants as StartAnswer
 use Rattle.model.specs.declared.StepAnswer.{StepAnswer}
-use Rattle.model.specs.declared.StepAnswer.TheVariants as StepAnswer
 use Rattle.model.specs.declared.BookedAnswer.{BookedAnswer}
-use Rattle.model.specs.declared.BookedAnswer.TheVariants as BookedAnswer
 use Rattle.model.specs.declared.BentAnswer.{BentAnswer}
-use Rattle.model.specs.declared.BentAnswer.TheVariants as BentAnswer
 use Rattle.model.specs.declared.BlockAnswer.{BlockAnswer}
 use Rattle.model.specs.declared.Reading.{Reading}
 use Rattle.model.specs.declared.Reading.TheVariants.{Free, Pressed, Refused}

@@ -13,10 +13,6 @@ use Rattle.model.specs.Step.{gradients, moves, worked_step, next_state, WorkedSt
 use Rattle.model.specs.Energy.{stored_energy, loss, released, work, residuals, limits, dot_all, rounding_work, rounding_limit}
 use Rattle.model.specs.Bench.{finger, forces}
 use Rattle.model.specs.declared.Setup.{Setup}
-use Rattle.model.specs.declared.SetupAnswer.TheVariants as SetupAnswer
-use Rattle.model.specs.declared.NeckAnswer.TheVariants as NeckAnswer
-use Rattle.model.specs.declared.StartAnswer.TheVariants as StartAnswer
-use Rattle.model.specs.declared.StepAnswer.TheVariants as StepAnswer
 
 abbrev pub worked_setup : Setup
 worked_setup = record {

@@ -1,11 +1,11 @@
 -- 02, item 7: the list that is shipped, ties, and lists that are refused, computed.
-use Rattle.std.specs.Prelude.{◌≡◌, refl, List, [], ◌∷◌, ℕ, replicate}
+use Rattle.std.specs.Prelude.{◌≡◌, refl, [], ◌∷◌, ℕ, replicate}
 use Rattle.model.specs.Ranges.{between}
 use Rattle.model.specs.Refusal.{accepted, refused, first_of}
 use Rattle.model.specs.Gradient.{greatest}
 use Rattle.model.specs.Frets.{is_distance, distance, fret_place, fret_places, fret_rules, frets}
 use Rattle.model.specs.Answers.{frets_result}
-use Rattle.model.specs.Table.{Line, ◌gives◌, Right}
+use Rattle.model.specs.Table.{◌gives◌, Right}
 use Rattle.model.specs.declared.FretsAnswer.TheVariants as FretsAnswer
 
 -- the list for N = 90 that 02 has; its last fret is a tie, 22 1/2 segments from the bridge

@@ -4,9 +4,8 @@ pub mod Energy
 pub mod Book
 pub mod Frets
 pub mod Symmetry
-mod Instances
+pub mod Instances
 mod EnergyInstances
 mod BookInstances
 mod FretInstances
-mod PullingInstances
 mod SymmetryInstances

@@ -8,7 +8,7 @@ use lib.Ieee.{Float, fin, Format, div, of_int, in_float}
 use mir.Syntax.{w32}
 use mir.Val.{SFits, to_z, of_z}
 use mir.Facts.{to_z-of_z}
-use Rattle.integers.specs.Floats.{divide-exact, casts}
+use Rattle.integers.proofs.Floats.{divide-exact, casts}
 use Rattle.model.specs.Ranges.{displacement_ok}
 use Rattle.model.specs.Fraction.{fraction, Holds}
 use Rattle.laws.specs.Sizes.{inside-within}

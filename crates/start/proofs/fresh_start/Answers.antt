@@ -20,7 +20,7 @@ use Rattle.promises.specs.Promises.{Passed}
 use Rattle.laws.specs.Accepted.{setup-refused, setup-passed}
 use Rattle.laws.specs.Refusals.{Reached, row-passed-not, row-holds-not, row-fact, made_by, refused-by}
 use Rattle.laws.specs.EnergySizes.{Held}
-use Rattle.laws.specs.BookedRun.{fresh-held}
+use Rattle.laws.proofs.BookedRun.{fresh-held}
 use Rattle.setup.specs.Entry.{Begun, begun, Sized, sized}
 use Rattle.start.proofs.fresh_start.Goals as goal
 use Rattle.start.proofs.fresh_start.Goals.{After-clear, After-clear-2, After-clear-3, After-finger_ok, Else-not-finger_ok, Else-not-three_lengths_ok, Else-refusal-ne0, Start}

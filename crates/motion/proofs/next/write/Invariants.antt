@@ -7,7 +7,8 @@ use borrow.Author.Rules.{sfits_of}
 use lib.IntN.{ℤ, pos}
 use lib.ListN.{length, take}
 use mir.Facts.{to_z-of_z}
-use Rattle.integers.specs.Filled.{Filled, filled_none, filled_more, filled-all}
+use Rattle.integers.specs.Filled.{Filled, filled_none, filled_more}
+use Rattle.integers.proofs.Filled.{filled-all}
 use Rattle.model.specs.Differences.{at}
 use Rattle.laws.specs.Strings.{by-places}
 use Rattle.motion.specs.Front.{front-spans, front_at}

@@ -1,7 +1,7 @@
 -- A neck written to the end is the one that the plan lays.
 use mathlib.Core.Path.{ap₂}
 use mir.Facts.{to_z-of_z}
-use Rattle.integers.specs.Filled.{filled-all}
+use Rattle.integers.proofs.Filled.{filled-all}
 use Rattle.model.specs.Neck.{laid}
 use Rattle.neck.proofs.laying.write_neck.Goals as goal
 

@@ -3,7 +3,8 @@ use mathlib.Core.Path.{refl, ◌∙◌}
 use native.Mathlib.Omega.{arith}
 use lib.IntN.{pos}
 use lib.ListN.{length}
-use Rattle.integers.specs.Filled.{filled_none, filled_more, filled-all, tabulate-same}
+use Rattle.integers.specs.Filled.{filled_none, filled_more, tabulate-same}
+use Rattle.integers.proofs.Filled.{filled-all}
 use Rattle.start.proofs.clearing.clear.Goals as goal
 
 pub loop-i-preserved : goal.loop-i-preserved
