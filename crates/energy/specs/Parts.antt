@@ -17,7 +17,7 @@ use Rattle.energy_sums.specs.Contacts.{cleared_contacts}
 
 -- ---- a stored energy
 
--- the string's part, by Σa², E(u, v), Σ D1u-as-D1v and E(a, a)
+-- the string's part, by Σa², E(u, v), Σ D1u·D1v and E(a, a)
 abbrev pub string_part : Setup → (change tension stiffness viscous : ℤ) → ℤ
 string_part s change tension stiffness viscous = pos 8192 *ℤ change +ℤ pos 2 *ℤ pos (L s) *ℤ tension +ℤ pos 2 *ℤ pos (M s) *ℤ stiffness +ℤ (pos 0 -ℤ pos (S s) *ℤ viscous)
 

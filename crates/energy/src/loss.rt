@@ -17,7 +17,7 @@ use energy_sums::rises::change_rises;
 use model::{Finger, Setup, Wide};
 use wide::sums::{added, widened};
 
-// The loss of the moves δ: 2·Z·Σδ² + S.E(δ, δ), from these two sums.
+// The loss of the moves δ: 2·Z·Σδ² + S·E(δ, δ), from these two sums.
 fn moving_loss(setup: Setup, change: i64, viscous: i64) -> Wide
     requires { Passed (setup_rules setup) × Within (change ∷ viscous ∷ []) (127 * 2 ^ 42 ∷ 2 ^ 51 ∷ []) }
     ensures { value result ≡ pos 2 *ℤ pos setup.plain *ℤ change +ℤ pos setup.viscous *ℤ viscous }

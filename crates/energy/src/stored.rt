@@ -15,7 +15,7 @@ use energy_sums::rises::{change_rises, rises};
 use model::{Finger, Setup, Wide};
 use wide::sums::{four, plus};
 
-// The string's part: 8192·Σa² + 2·L·E(u, v) + 2·M·Σ D1u.D1v − S.E(a, a), from these four sums.
+// The string's part: 8192·Σa² + 2·L·E(u, v) + 2·M·Σ D1u·D1v − S·E(a, a), from these four sums.
 fn string_energy(setup: Setup, change: i64, tension: i64, stiffness: i64, viscous: i64) -> Wide
     requires { Passed (setup_rules setup) × Within (change ∷ tension ∷ stiffness ∷ viscous ∷ []) string_sizes }
     ensures { value result ≡ string_part setup change tension stiffness viscous }

@@ -1,4 +1,4 @@
--- The last segment and the last point of a string, and with them the whole sums: E(a, b) and Σ D1a-as-D1b.
+-- The last segment and the last point of a string, and with them the whole sums: E(a, b) and Σ D1a·D1b.
 use Rattle.std.specs.Prelude.{◌≡◌, List, ℕ, suc, ◌+◌, ◌-◌, ◌≤◌, ℤ, ◌+ℤ◌, ◌-ℤ◌, ◌*ℤ◌, length}
 use Rattle.std.proofs.Math.Path.{refl, sym, ap, ap₂}
 use Rattle.std.proofs.Common.{◌∙◌, add-one}

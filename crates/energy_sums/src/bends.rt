@@ -1,4 +1,4 @@
-// 01, 'Energy': Σ D1u.D1v over the points, summed with raised bends; a string's bends sum to what it lacks at both ends.
+// 01, 'Energy': Σ D1u·D1v over the points, summed with raised bends; a string's bends sum to what it lacks at both ends.
 ghost use Rattle.std.specs.Prelude.{◌≡◌, [], ◌∷◌, ◌+◌, ◌-◌, ◌≤◌, ◌<◌, ◌+ℤ◌, ◌*ℤ◌, length};
 ghost use Rattle.integers.specs.Machine.{Within};
 ghost use Rattle.integers.specs.Sum.{sum, bend};

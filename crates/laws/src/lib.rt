@@ -1,2 +1,2 @@
-// Proofs of the promises; no code. They are gathered in specs/Demands.antt.
+// Proofs of the promises; no code. They are gathered in proofs/Demands.antt.
 #![tactic(auto)]

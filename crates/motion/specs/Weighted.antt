@@ -1,4 +1,4 @@
--- The string terms of c as D1 of one string: L-as-D1u − M-as-D2u + S-as-D1(u − v) is D1 of t = L·u − M-as-D1u + S·(u − v), since D1 is linear.
+-- The string terms of c as D1 of one string: L·D1u − M·D2u + S·D1(u − v) is D1 of t = L·u − M·D1u + S·(u − v), since D1 is linear.
 use Rattle.std.specs.Prelude.{List, [], ◌∷◌, ℕ, ◌*◌, ◌^◌, T, ℤ, pos, ◌+ℤ◌, ◌-ℤ◌, ◌*ℤ◌, length, ◌≡◌}
 use Rattle.integers.specs.Filled.{tabulate}
 use Rattle.model.specs.Ranges.{all, displacement_ok}

@@ -27,7 +27,7 @@ fn raised_product(factor: u32, x: i32, low: u32) -> i64
     ((factor as u64) * (raised as u64)) as i64
 }
 
-// The weighted string at a point: L·u − M.D1u + S·(u − v), from u there and at both neighbours and v there.
+// The weighted string at a point: L·u − M·D1u + S·(u − v), from u there and at both neighbours and v there.
 fn weigh(setup: Setup, left: i32, own: i32, right: i32, older: i32) -> i64
     requires { Passed (setup_rules setup) × T (displacement_ok left) × T (displacement_ok own) × T (displacement_ok right) × T (displacement_ok older) }
     ensures { result ≡ pos setup.tension *ℤ own -ℤ pos setup.stiffness *ℤ (left -ℤ pos 2 *ℤ own +ℤ right) +ℤ pos setup.viscous *ℤ (own -ℤ older) }
