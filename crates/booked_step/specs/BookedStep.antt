@@ -1,13 +1,13 @@
--- What a booked step answers and leaves, and that by its turn it is a booked step of a ready voice.
+-- What a booked step answers and leaves, by the step that it makes. That by its turn it is a booked step of a ready voice is in proofs/BookedStep.
 use Rattle.std.proofs.Math.Path.{◌≡◌, refl, ap}
 use Rattle.std.proofs.Common.{sym, ◌∙◌}
 use Rattle.std.specs.Prelude.{List, [], ◌∷◌, ℤ}
 use Prim.Native.Nat.{ℕ, zero, suc}
 use Rattle.model.specs.Refusal.{refused, first_of, unless}
 use Rattle.model.specs.Setup.{setup_rules}
-use Rattle.model.specs.State.{State, Lent, by_turn, state_of, Neck, Forces}
+use Rattle.model.specs.State.{Lent, state_of, Neck, Forces}
 use Rattle.model.specs.Step.{worked_step, next_state, step_rules, call_rules, result_rules, forces_rule, StepResult, step}
-use Rattle.model.specs.Book.{Columns, columns, with_step, count_rule, columns_rule}
+use Rattle.model.specs.Book.{Columns, with_step, count_rule, columns_rule}
 use Rattle.model.specs.Booking.{booked_rules, BookedResult, booked_step}
 use Rattle.model.specs.Answers.{step_result, booked_result}
 use Rattle.model.specs.declared.Setup.{Setup}
@@ -19,16 +19,16 @@ use Rattle.promises.specs.Promises.{Passed}
 use Rattle.laws.specs.Accepted.{result_made}
 use Rattle.laws.specs.Ready.{Ready, rows_left}
 use Rattle.laws.specs.Booking.{booked_made, same_number}
-use Rattle.laws.specs.Advance.{step_answer, with_strings, advanced-first, advanced-second}
-use Rattle.booked_step.specs.BookedAdvance.{step_of, book_after, booked_advanced_result, if_accepted, booked_advance}
+use Rattle.laws.specs.Advance.{step_answer}
+use Rattle.booked_step.specs.BookedAdvance.{step_of, book_after, if_accepted}
 
 -- ---- a booked step by the step that it makes
 
 module _ (s : Setup) (neck : Neck) (v : Lent) (b : Columns) (F : Forces) where
-  abbrev made : Columns
+  abbrev pub made : Columns
   made = let t = worked_step s neck (state_of v) F in with_step b t (next_state t)
 
-  abbrev booked : StepResult → BookedResult
+  abbrev pub booked : StepResult → BookedResult
   booked q = record { answer = q.answer; lent = q.lent; book = if_accepted q.answer made b }
 
   -- the rows that a ready voice has left
@@ -36,7 +36,7 @@ module _ (s : Setup) (neck : Neck) (v : Lent) (b : Columns) (F : Forces) where
   unfolding booked_rules call_rules setup_rules
   rows-after ready = rows_left ready (forces_rule F ∷ count_rule b ∷ columns_rule b ∷ result_rules (next_state (worked_step s neck (state_of v) F)))
 
-  by-step : Passed (count_rule b ∷ columns_rule b ∷ []) → booked (step s neck v F) ≡ booked_step s neck v b F
+  pub by-step : Passed (count_rule b ∷ columns_rule b ∷ []) → booked (step s neck v F) ≡ booked_step s neck v b F
   unfolding step booked_step
   by-step rows = go (first_of (step_rules s neck (state_of v) F)) ∙ ap (λ n. unless n (booked_made s neck v b F) turned_down) (sym (same_number s neck v b F rows))
     where
@@ -50,60 +50,13 @@ module _ (s : Setup) (neck : Neck) (v : Lent) (b : Columns) (F : Forces) where
 -- ---- by the turn
 
 -- the answer, by that of the step and the book
-in_parts : (turn : ℕ) (finger : Finger) (w : Book) (r : BookedAnswer) (first second contact : List ℤ) → let q = step_result turn finger (step_of r) first second contact in
+pub in_parts : (turn : ℕ) (finger : Finger) (w : Book) (r : BookedAnswer) (first second contact : List ℤ) → let q = step_result turn finger (step_of r) first second contact in
     booked_result turn finger w r first second contact ≡ record { answer = q.answer; lent = q.lent; book = book_after w r }
 in_parts turn finger w (Accepted a) first second contact = refl
 in_parts turn finger w (Refused n) first second contact = refl
 
 -- the book is entered just when the step is accepted
-either : (turn : ℕ) (finger : Finger) (r : BookedAnswer) (first second contact : List ℤ) (new old : Columns)
+pub either : (turn : ℕ) (finger : Finger) (r : BookedAnswer) (first second contact : List ℤ) (new old : Columns)
     → if_accepted (step_answer (step_of r)) new old ≡ if_accepted (step_result turn finger (step_of r) first second contact).answer new old
 either turn finger (Accepted a) first second contact new old = refl
 either turn finger (Refused n) first second contact new old = refl
-
-module _ (s : Setup) (neck : Neck) (v : Lent) (w : Book) (F : Forces) (ready : Ready s neck (state_of v)) (rows : Passed (count_rule (columns w) ∷ columns_rule (columns w) ∷ [])) where
-  abbrev B : Columns
-  B = columns w
-
-  abbrev after : State → Columns
-  after x = let t = worked_step s neck x F in with_step B t (next_state t)
-
-  joined : (r : BookedAnswer) (x : State) → x ≡ state_of v → (turn : ℕ) (older contact : List ℤ) (q : StepResult)
-      → ((new old : Columns) → if_accepted (step_answer (step_of r)) new old ≡ if_accepted q.answer new old) → q ≡ step s neck v F
-      → booked_advanced_result w r older contact ≡ booked_advance turn s neck x F B → ◌≡◌ {A = BookedResult} (record { answer = q.answer; lent = q.lent; book = book_after w r }) (booked_step s neck v B F)
-  unfolding booked_advance
-  joined r x same turn older contact q e stepped eq =
-      let book-is : book_after w r ≡ if_accepted q.answer (after (state_of v)) B =
-      ap (λ a. a.book) eq
-      ∙ ap (λ a. if_accepted a (after x) B) (sym (ap (λ a. a.advanced.answer) eq))
-      ∙ ap (λ x. if_accepted (step_answer (step_of r)) (after x) B) same
-      ∙ e (after (state_of v)) B in
-      (λ i. record { answer = q.answer; lent = q.lent; book = book-is i }) ∙ ap (booked s neck v B F) stepped ∙ by-step s neck v B F rows
-
-  at_first : v.turn ≡ 0 → with_strings v v.first v.second ≡ state_of v
-  unfolding state_of
-  at_first z = ap (λ n. record { newer = by_turn n v.first v.second; older = by_turn n v.second v.first; contact = v.contact; finger = v.finger }) (sym z)
-
-  at_second : (v.turn ≡ 0 → ⊥) → with_strings v v.second v.first ≡ state_of v
-  unfolding state_of
-  at_second = go v.turn
-    where
-      go : (n : ℕ) → (n ≡ 0 → ⊥) → ◌≡◌ {A = State} (with_strings v v.second v.first) (record { newer = by_turn n v.first v.second; older = by_turn n v.second v.first; contact = v.contact; finger = v.finger })
-      go zero h = absurd (h refl)
-      go (suc n) h = refl
-
-  pub booked-first : v.turn ≡ 0 → (r : BookedAnswer) (older contact : List ℤ) → booked_advanced_result w r older contact ≡ booked_advance 1 s neck (with_strings v v.first v.second) F B
-      → booked_result v.turn v.finger w r v.first older contact ≡ booked_step s neck v B F
-  unfolding booked_advance
-  booked-first z r older contact eq =
-      in_parts v.turn v.finger w r v.first older contact
-      ∙ joined r (with_strings v v.first v.second) (at_first z) 1 older contact (step_result v.turn v.finger (step_of r) v.first older contact)
-      (either v.turn v.finger r v.first older contact) (advanced-first s neck v F ready z (step_of r) older contact (ap (λ a. a.advanced) eq)) eq
-
-  pub booked-second : (v.turn ≡ 0 → ⊥) → (r : BookedAnswer) (older contact : List ℤ) → booked_advanced_result w r older contact ≡ booked_advance 0 s neck (with_strings v v.second v.first) F B
-      → booked_result v.turn v.finger w r older v.second contact ≡ booked_step s neck v B F
-  unfolding booked_advance
-  booked-second z r older contact eq =
-      in_parts v.turn v.finger w r older v.second contact
-      ∙ joined r (with_strings v v.second v.first) (at_second z) 0 older contact (step_result v.turn v.finger (step_of r) older v.second contact)
-      (either v.turn v.finger r older v.second contact) (advanced-second s neck v F ready z (step_of r) older contact (ap (λ a. a.advanced) eq)) eq

@@ -15,7 +15,7 @@ use Rattle.laws.specs.Advance.{with_strings, ready-first, ready-second}
 use Rattle.laws.specs.Ready.{Ready}
 use Rattle.book.specs.Entering.{book-passing, count_room}
 use Rattle.booked_step.specs.BookedAdvance.{booked_advance}
-use Rattle.booked_step.specs.BookedStep.{booked-first, booked-second}
+use Rattle.booked_step.proofs.BookedStep.{booked-first, booked-second}
 use Rattle.booked_step.proofs.turn.booked_ready.Goals as goal
 use Rattle.booked_step.proofs.turn.booked_ready.Goals.{Start}
 

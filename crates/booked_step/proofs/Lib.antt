@@ -1,0 +1,2 @@
+-- What rests on a booked step's being the step that it makes, with its book.
+pub mod BookedStep
