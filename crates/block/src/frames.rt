@@ -2,24 +2,18 @@
 ghost use Rattle.std.specs.Prelude.{◌≡◌, ◌+◌, ◌*◌, ◌≤◌, ◌<◌, ◌/◌, length};
 ghost use Rattle.laws.specs.Playing.{forces_at, with_frame};
 
-use model::Frame;
-
-// The forces of one step.
-#[derive(Clone, Copy)]
-pub struct StepForces {
-    pub pluck: i32,
-    pub finger: i32,
-}
+use model::{Forces, Frame};
 
 // The forces of the step that follows `count` steps, pluck first.
-pub fn forces_at(forces: &[i32], count: usize) -> StepForces
+pub fn forces_at(forces: &[i32], count: usize) -> Forces
     requires { count < length forces.now / 2 }
     ensures { record { pluck = result.pluck; finger = result.finger } ≡ forces_at forces.now count }
 {
     let at = 2 * count;
-    let pluck = forces[at];
-    let finger = forces[at + 1];
-    StepForces { pluck, finger }
+    Forces {
+        pluck: forces[at],
+        finger: forces[at + 1],
+    }
 }
 
 // Writes the frame of the step that follows `count` steps over its two samples, bridge first.

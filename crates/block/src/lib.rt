@@ -5,14 +5,16 @@
 pub mod frames;
 pub mod play;
 
-ghost use Rattle.std.specs.Prelude.{◌≡◌, ℕ};
+ghost use Rattle.std.specs.Prelude.{◌≡◌};
 ghost use Rattle.model.specs.Answers.{block_result};
 ghost use Rattle.model.specs.Block.{counts_wrong, block_rules, block};
-ghost use Rattle.model.specs.Refusal.{first_of};
+ghost use Rattle.model.specs.Lending.{the_neck, the_lent, SameBuffers};
+ghost use Rattle.model.specs.Refusal.{first_of, refusal_of};
 
 use crate::play::play;
-use examination::arguments::{buffers_refusal, state_refusal};
-use model::{BlockAnswer, Finger, Setup};
+use examination::arguments::{examine_buffers, examine_state, in_order};
+use model::refusal::Refusal;
+use model::{Lent, Neck, Played, Setup};
 
 // 15: an odd number of forces, or fewer samples than forces.
 fn counts_wrong(forces: usize, samples: usize) -> bool
@@ -21,63 +23,41 @@ fn counts_wrong(forces: usize, samples: usize) -> bool
     (forces % 2 == 1) | (samples < forces)
 }
 
-// The refusal of a block, or 0, whatever the turn.
-fn block_refusal(
+// The refusal of a block, if it has one.
+fn examine_block(
     setup: Setup,
-    heights: &[i32],
-    stiffness: &[u16],
-    first: &[i32],
-    second: &[i32],
-    contact: &[i32],
-    finger: Finger,
+    neck: Neck,
+    lent: &Lent,
     forces: &[i32],
     samples: &[f32],
-) -> u32
-    ensures { (turn : ℕ) → result ≡ first_of (block_rules setup (record { heights = heights.now; stiffness = stiffness.now })
-        (record { first = first.now; second = second.now; contact = contact.now; turn = turn; finger = finger })
-        forces.now samples.now) }
+) -> Result<(), Refusal>
+    ensures { refusal_of result ≡ first_of (block_rules setup (the_neck neck.entry) (the_lent lent.now) forces.now samples.now) }
 {
-    let number = buffers_refusal(setup, heights, stiffness, first, second, contact);
-    if number != 0 {
-        return number;
-    }
+    let state = in_order(lent);
+    examine_buffers(setup, neck, state)?;
     if counts_wrong(forces.len(), samples.len()) {
-        return 15;
+        return Err(Refusal::ForceCount);
     }
-    state_refusal(heights, first, second, contact, finger)
+    examine_state(neck.heights, state)
 }
 
 // Plays a block: makes steps until the forces, pluck and finger in turn, end or a step is refused, and writes each accepted step's frame, bridge
-// first. The samples past the last frame made keep their contents. Answers the number of steps made, the refusal that stopped it (0 if none did), and the turn and finger after them.
+// first. The samples past the last frame made keep their contents. Answers the number of steps made, and the refusal that stopped it, if one did.
 pub fn play_block(
     setup: Setup,
-    heights: &[i32],
-    stiffness: &[u16],
-    first: &mut [i32],
-    second: &mut [i32],
-    contact: &mut [i32],
-    turn: u32,
-    finger: Finger,
+    neck: Neck,
+    lent: &mut Lent,
     forces: &[i32],
     samples: &mut [f32],
-) -> BlockAnswer
-    ensures { block_result result first.new second.new contact.new samples.new ≡ block setup
-        (record { heights = heights.now; stiffness = stiffness.now })
-        (record { first = first.old; second = second.old; contact = contact.old; turn = turn; finger = finger })
-        forces.now samples.old }
+) -> Played
+    ensures same { SameBuffers lent.old lent.new }
+    ensures played { block_result result (the_lent lent.new) samples.new ≡ block setup (the_neck neck.entry) (the_lent lent.old) forces.now samples.old }
 {
-    let refusal = block_refusal(
-        setup, heights, stiffness, first, second, contact, finger, forces, samples,
-    );
-    if refusal != 0 {
-        return BlockAnswer {
+    if let Err(refusal) = examine_block(setup, neck, lent, forces, samples) {
+        return Played {
             count: 0,
-            refusal,
-            turn,
-            finger,
+            stopped: Some(refusal),
         };
     }
-    play(
-        setup, heights, stiffness, first, second, contact, turn, finger, forces, samples,
-    )
+    play(setup, neck, lent, forces, samples)
 }

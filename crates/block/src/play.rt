@@ -4,70 +4,40 @@ ghost use Rattle.laws.specs.Ready.{Ready};
 ghost use Rattle.model.specs.Answers.{block_result};
 ghost use Rattle.model.specs.Block as Blocks;
 ghost use Rattle.model.specs.Block.{pairs};
+ghost use Rattle.model.specs.Lending.{the_neck, the_lent, SameBuffers};
 ghost use Rattle.model.specs.State.{state_of};
 
 use crate::frames::{forces_at, write_frame};
-use model::{BlockAnswer, Finger, Setup, StepAnswer};
+use model::{Lent, Neck, Played, Setup};
 use step::turn::step_ready;
 
-// Steps a voice that is ready, until the forces end or a step is refused. `count` is raised with each accepted step.
+// Steps a voice that is ready, until the forces end or a step is refused.
 pub fn play(
     setup: Setup,
-    heights: &[i32],
-    stiffness: &[u16],
-    first: &mut [i32],
-    second: &mut [i32],
-    contact: &mut [i32],
-    mut turn: u32,
-    mut finger: Finger,
+    neck: Neck,
+    lent: &mut Lent,
     forces: &[i32],
     samples: &mut [f32],
-) -> BlockAnswer
-    requires { Ready setup (record { heights = heights.now; stiffness = stiffness.now })
-        (state_of (record { first = first.old; second = second.old; contact = contact.old; turn = turn; finger = finger }))
-        × (length forces.now ≤ length samples.old) }
-    ensures { block_result result first.new second.new contact.new samples.new ≡ Blocks.play setup
-        (record { heights = heights.now; stiffness = stiffness.now })
-        (record { first = first.old; second = second.old; contact = contact.old; turn = turn; finger = finger })
-        (pairs forces.now) samples.old }
+) -> Played
+    requires { Ready setup (the_neck neck) (state_of (the_lent lent.old)) × (length forces.now ≤ length samples.old) }
+    ensures same { SameBuffers lent.old lent.new }
+    ensures played { block_result result (the_lent lent.new) samples.new
+        ≡ Blocks.play setup (the_neck neck.entry) (the_lent lent.old) (pairs forces.now) samples.old }
 {
     let steps = forces.len() / 2;
-    let mut count = 0usize;
-    while count < steps {
-        let acting = forces_at(forces, count);
-        let answer = step_ready(
-            setup,
-            heights,
-            stiffness,
-            first,
-            second,
-            contact,
-            turn,
-            finger,
-            acting.pluck,
-            acting.finger,
-        );
-        match answer {
-            StepAnswer::Accepted(stepped) => {
-                turn = stepped.turn;
-                finger = stepped.finger;
-                write_frame(stepped.frame, samples, count);
-                count += 1;
-            }
-            StepAnswer::Refused(refusal) => {
-                return BlockAnswer {
+    for count in 0..steps {
+        match step_ready(setup, neck, lent, forces_at(forces, count)) {
+            Ok(frame) => write_frame(frame, samples, count),
+            Err(refusal) => {
+                return Played {
                     count,
-                    refusal,
-                    turn,
-                    finger,
+                    stopped: Some(refusal),
                 };
             }
         }
     }
-    BlockAnswer {
-        count,
-        refusal: 0,
-        turn,
-        finger,
+    Played {
+        count: steps,
+        stopped: None,
     }
 }

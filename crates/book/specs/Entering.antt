@@ -31,9 +31,9 @@ pub record Passing (b : Book) : Type 0 where
 unfoldable pub left_over : Change → ℤ
 left_over c = value c.after -ℤ value c.before -ℤ c.work +ℤ value c.loss
 
-pub left-over-size : {c : Change} → Small c → left_over c within 2 ^ 67
+pub left_over_size : {c : Change} → Small c → left_over c within 2 ^ 67
 unfolding left_over
-left-over-size h = wide (h.after ⟨-⟩ h.before ⟨-⟩ h.work ⟨+⟩ h.loss) tt
+left_over_size h = wide (h.after ⟨-⟩ h.before ⟨-⟩ h.work ⟨+⟩ h.loss) tt
 
 abbrev pub with_change : Columns → Change → Columns
 with_change b c = record {

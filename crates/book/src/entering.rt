@@ -6,7 +6,7 @@ ghost use Rattle.model.specs.Wide.{value};
 ghost use Rattle.book.specs.Entering.{Small, Passing, left_over, with_change, raised_book};
 
 use model::{Book, Wide};
-use wide::sums::{added, minus, plus};
+use wide::sums::added;
 
 // What a step brings: the stored energy before and after it, its work and its loss.
 #[derive(Clone, Copy)]
@@ -21,13 +21,9 @@ pub struct Change {
 pub fn new_book(stored: Wide) -> Book
     ensures { columns result ≡ record { stored = value stored; work = pos 0; loss = pos 0; rounding = pos 0; count = 0 } }
 {
-    let zero = Wide { high: 0, low: 0 };
     Book {
         stored,
-        work: zero,
-        loss: zero,
-        rounding: zero,
-        count: 0,
+        ..Book::default()
     }
 }
 
@@ -37,11 +33,12 @@ fn rounding_work(change: Change) -> Wide
     ensures { value result ≡ left_over change }
 {
     let work = change.work;
-    let gained = minus(change.after, change.before);
-    added(plus(gained, change.loss), 0 - work)
+    let gained = change.after - change.before;
+    added(gained + change.loss, 0 - work)
 }
 
 // The book after a step.
+#[tactic(auto, using(crate::specs::Entering::left_over_size))]
 pub fn with_step(book: Book, change: Change) -> Book
     requires { Small change × Passing book × (book.count < 4294967295) }
     ensures { columns result ≡ with_change (columns book) change }
@@ -51,8 +48,8 @@ pub fn with_step(book: Book, change: Change) -> Book
     Book {
         stored,
         work: added(book.work, change.work),
-        loss: plus(book.loss, change.loss),
-        rounding: plus(book.rounding, rest),
+        loss: book.loss + change.loss,
+        rounding: book.rounding + rest,
         count: book.count + 1,
     }
 }
@@ -62,13 +59,9 @@ pub fn with_bend(book: Book, stored: Wide, work: Wide) -> Book
     requires { (value book.work within 2 ^ 120) × (value work within 2 ^ 84) }
     ensures { columns result ≡ raised_book (columns book) (value stored) (value work) }
 {
-    let loss = book.loss;
-    let rounding = book.rounding;
     Book {
         stored,
-        work: plus(book.work, work),
-        loss,
-        rounding,
-        count: book.count,
+        work: book.work + work,
+        ..book
     }
 }

@@ -1,9 +1,10 @@
 // The refusals of a book: 16 for the count, 17 for a column.
 ghost use Rattle.std.specs.Prelude.{◌≡◌, [], ◌∷◌};
 ghost use Rattle.model.specs.Book.{columns, column_ok, columns_ok, count_rule, columns_rule};
-ghost use Rattle.model.specs.Refusal.{first_of};
+ghost use Rattle.model.specs.Refusal.{first_of, refusal_of};
 ghost use Rattle.model.specs.Wide.{value};
 
+use model::refusal::Refusal;
 use model::{Book, Wide};
 use wide::order::at_most;
 
@@ -22,6 +23,7 @@ const LARGEST_COLUMN: Wide = Wide {
 };
 
 // A column is in the range, ends included.
+#[tactic(auto, unfolding(model::specs::Book::column_ok, model::specs::Ranges::inside))]
 fn column_ok(column: Wide) -> bool
     ensures { result ≡ column_ok (value column) }
 {
@@ -32,22 +34,18 @@ fn column_ok(column: Wide) -> bool
 pub fn columns_ok(book: Book) -> bool
     ensures { result ≡ columns_ok (columns book) }
 {
-    let stored = column_ok(book.stored);
-    let work = column_ok(book.work);
-    let loss = column_ok(book.loss);
-    let rounding = column_ok(book.rounding);
-    stored & (work & (loss & rounding))
+    column_ok(book.stored) & column_ok(book.work) & column_ok(book.loss) & column_ok(book.rounding)
 }
 
-// 16 and 17, or 0.
-pub fn book_refusal(book: Book) -> u32
-    ensures { result ≡ first_of (count_rule (columns book) ∷ columns_rule (columns book) ∷ []) }
+// 16, or else 17.
+pub fn examine_book(book: Book) -> Result<(), Refusal>
+    ensures { refusal_of result ≡ first_of (count_rule (columns book) ∷ columns_rule (columns book) ∷ []) }
 {
     if book.count == LARGEST_COUNT {
-        return 16;
+        return Err(Refusal::BookCount);
     }
     if !columns_ok(book) {
-        return 17;
+        return Err(Refusal::BookColumn);
     }
-    0
+    Ok(())
 }

@@ -1,7 +1,8 @@
 // 02, item 6: a booked bend in a state, from newer and older string.
 ghost use Rattle.std.specs.Prelude.{◌≡◌};
-ghost use Rattle.model.specs.Answers.{bent_result};
 ghost use Rattle.model.specs.Book.{columns};
+ghost use Rattle.model.specs.Lending.{the_state};
+ghost use Rattle.model.specs.Refusal.{answer_of};
 ghost use Rattle.booked_bend.specs.BookedBend.{bend_on};
 
 use book::entering::with_bend;
@@ -9,42 +10,35 @@ use book::refusals::columns_ok;
 use energy::stored::stored_energy;
 use energy::work::bend_work;
 use examination::rows::state_ok;
-use model::{Bent, BentAnswer, Book, Finger, Setup};
-use ranges::lengths::three_lengths_ok;
+use model::refusal::Refusal;
+use model::{Book, Setup, State};
+use ranges::lengths::lengths_ok;
 use setup::bend::with_tension;
-use setup::setup_refusal;
+use setup::examine_setup;
 
 // Its table of refusals, row by row, and then the bend entered: its work, and the stored energy by the new setup. The old tension is not examined.
 pub fn bend_state(
     setup: Setup,
     tension: u32,
-    newer: &[i32],
-    older: &[i32],
-    contact: &[i32],
-    finger: Finger,
-    book: Book,
-) -> BentAnswer
-    ensures { bent_result book result ≡ bend_on setup (record { newer = newer.now; older = older.now; contact = contact.now; finger = finger }) (columns book) tension }
+    state: State,
+    book: &mut Book,
+) -> Result<Setup, Refusal>
+    ensures { record { answer = answer_of result; book = columns book.new } ≡ bend_on setup (the_state state.entry) (columns book.old) tension }
 {
     let next = with_tension(setup, tension);
-    let refusal = setup_refusal(next);
-    if refusal != 0 {
-        return BentAnswer::Refused(refusal);
+    examine_setup(next)?;
+    let lengths = [state.newer.len(), state.older.len(), state.contact.len()];
+    if !lengths_ok(next, &lengths) {
+        return Err(Refusal::BufferLength);
     }
-    if !three_lengths_ok(next, newer.len(), older.len(), contact.len()) {
-        return BentAnswer::Refused(6);
+    if !state_ok(state) {
+        return Err(Refusal::State);
     }
-    if !state_ok(newer, older, contact, finger) {
-        return BentAnswer::Refused(11);
+    if !columns_ok(*book) {
+        return Err(Refusal::BookColumn);
     }
-    if !columns_ok(book) {
-        return BentAnswer::Refused(17);
-    }
-    let work = bend_work(setup.tension, tension, newer, older);
-    let stored = stored_energy(next, newer, older, contact, finger);
-    let entered = with_bend(book, stored, work);
-    BentAnswer::Accepted(Bent {
-        setup: next,
-        book: entered,
-    })
+    let work = bend_work(setup.tension, tension, state.newer, state.older);
+    let stored = stored_energy(next, state);
+    *book = with_bend(*book, stored, work);
+    Ok(next)
 }

@@ -5,34 +5,35 @@ use Rattle.std.specs.Prelude.{List, [], ◌∷◌, ℤ}
 use Prim.Native.Nat.{ℕ, zero, suc}
 use Rattle.model.specs.State.{State, Lent, by_turn, state_of, Neck, Forces}
 use Rattle.model.specs.Step.{worked_step, next_state, StepResult, step}
-use Rattle.model.specs.Book.{Columns, columns, with_step, count_rule, columns_rule}
+use Rattle.model.specs.Refusal.{Answer}
+use Rattle.model.specs.Book.{Columns, with_step, count_rule, columns_rule}
 use Rattle.model.specs.Booking.{BookedResult, booked_step}
-use Rattle.model.specs.Answers.{step_result, booked_result}
+use Rattle.model.specs.Answers.{step_result}
 use Rattle.model.specs.declared.Setup.{Setup}
-use Rattle.model.specs.declared.Book.{Book}
-use Rattle.model.specs.declared.BookedAnswer.{BookedAnswer}
+use Rattle.model.specs.declared.Stepped.{Stepped}
 use Rattle.promises.specs.Promises.{Passed}
 use Rattle.laws.specs.Ready.{Ready}
-use Rattle.laws.specs.Advance.{step_answer, with_strings, advanced-first, advanced-second}
-use Rattle.booked_step.specs.BookedAdvance.{step_of, book_after, booked_advanced_result, if_accepted, booked_advance}
-use Rattle.booked_step.specs.BookedStep.{booked, by-step, in_parts, either}
+use Rattle.laws.specs.Advance.{with_strings, advanced_result, advanced-first, advanced-second}
+use Rattle.booked_step.specs.BookedStep.{if_accepted, booked, by-step, booked_result, in_parts, either}
+use Rattle.booked_step.specs.BookedAdvance.{BookedAdvanced, booked_advance}
 
-module _ (s : Setup) (neck : Neck) (v : Lent) (w : Book) (F : Forces) (ready : Ready s neck (state_of v)) (rows : Passed (count_rule (columns w) ∷ columns_rule (columns w) ∷ [])) where
-  abbrev B : Columns
-  B = columns w
+module _ (s : Setup) (neck : Neck) (v : Lent) (B : Columns) (F : Forces) (ready : Ready s neck (state_of v)) (rows : Passed (count_rule B ∷ columns_rule B ∷ [])) where
+  -- what a booked advance answered and left in the buffers, and the book after it
+  abbrev left : Answer Stepped → Columns → List ℤ → List ℤ → BookedAdvanced
+  left r w older contact = record { advanced = advanced_result r older contact; book = w }
 
   abbrev after : State → Columns
   after x = let t = worked_step s neck x F in with_step B t (next_state t)
 
-  joined : (r : BookedAnswer) (x : State) → x ≡ state_of v → (turn : ℕ) (older contact : List ℤ) (q : StepResult)
-      → ((new old : Columns) → if_accepted (step_answer (step_of r)) new old ≡ if_accepted q.answer new old) → q ≡ step s neck v F
-      → booked_advanced_result w r older contact ≡ booked_advance turn s neck x F B → ◌≡◌ {A = BookedResult} (record { answer = q.answer; lent = q.lent; book = book_after w r }) (booked_step s neck v B F)
+  joined : (r : Answer Stepped) (w : Columns) (x : State) → x ≡ state_of v → (turn : ℕ) (older contact : List ℤ) (q : StepResult)
+      → ((new old : Columns) → if_accepted r new old ≡ if_accepted q.answer new old) → q ≡ step s neck v F
+      → left r w older contact ≡ booked_advance turn s neck x F B → ◌≡◌ {A = BookedResult} (record { answer = q.answer; lent = q.lent; book = w }) (booked_step s neck v B F)
   unfolding booked_advance
-  joined r x same turn older contact q e stepped eq =
-      let book-is : book_after w r ≡ if_accepted q.answer (after (state_of v)) B =
+  joined r w x same turn older contact q e stepped eq =
+      let book-is : w ≡ if_accepted q.answer (after (state_of v)) B =
       ap (λ a. a.book) eq
       ∙ ap (λ a. if_accepted a (after x) B) (sym (ap (λ a. a.advanced.answer) eq))
-      ∙ ap (λ x. if_accepted (step_answer (step_of r)) (after x) B) same
+      ∙ ap (λ x. if_accepted r (after x) B) same
       ∙ e (after (state_of v)) B in
       (λ i. record { answer = q.answer; lent = q.lent; book = book-is i }) ∙ ap (booked s neck v B F) stepped ∙ by-step s neck v B F rows
 
@@ -48,18 +49,18 @@ module _ (s : Setup) (neck : Neck) (v : Lent) (w : Book) (F : Forces) (ready : R
       go zero h = absurd (h refl)
       go (suc n) h = refl
 
-  pub booked-first : v.turn ≡ 0 → (r : BookedAnswer) (older contact : List ℤ) → booked_advanced_result w r older contact ≡ booked_advance 1 s neck (with_strings v v.first v.second) F B
-      → booked_result v.turn v.finger w r v.first older contact ≡ booked_step s neck v B F
+  pub booked-first : v.turn ≡ 0 → (r : Answer Stepped) (w : Columns) (older contact : List ℤ) → left r w older contact ≡ booked_advance 1 s neck (with_strings v v.first v.second) F B
+      → booked_result v.turn v.finger r w v.first older contact ≡ booked_step s neck v B F
   unfolding booked_advance
-  booked-first z r older contact eq =
+  booked-first z r w older contact eq =
       in_parts v.turn v.finger w r v.first older contact
-      ∙ joined r (with_strings v v.first v.second) (at_first z) 1 older contact (step_result v.turn v.finger (step_of r) v.first older contact)
-      (either v.turn v.finger r v.first older contact) (advanced-first s neck v F ready z (step_of r) older contact (ap (λ a. a.advanced) eq)) eq
+      ∙ joined r w (with_strings v v.first v.second) (at_first z) 1 older contact (step_result v.turn v.finger r v.first older contact)
+      (either v.turn v.finger r v.first older contact) (advanced-first s neck v F ready z r older contact (ap (λ a. a.advanced) eq)) eq
 
-  pub booked-second : (v.turn ≡ 0 → ⊥) → (r : BookedAnswer) (older contact : List ℤ) → booked_advanced_result w r older contact ≡ booked_advance 0 s neck (with_strings v v.second v.first) F B
-      → booked_result v.turn v.finger w r older v.second contact ≡ booked_step s neck v B F
+  pub booked-second : (v.turn ≡ 0 → ⊥) → (r : Answer Stepped) (w : Columns) (older contact : List ℤ) → left r w older contact ≡ booked_advance 0 s neck (with_strings v v.second v.first) F B
+      → booked_result v.turn v.finger r w older v.second contact ≡ booked_step s neck v B F
   unfolding booked_advance
-  booked-second z r older contact eq =
+  booked-second z r w older contact eq =
       in_parts v.turn v.finger w r older v.second contact
-      ∙ joined r (with_strings v v.second v.first) (at_second z) 0 older contact (step_result v.turn v.finger (step_of r) older v.second contact)
-      (either v.turn v.finger r older v.second contact) (advanced-second s neck v F ready z (step_of r) older contact (ap (λ a. a.advanced) eq)) eq
+      ∙ joined r w (with_strings v v.second v.first) (at_second z) 0 older contact (step_result v.turn v.finger r older v.second contact)
+      (either v.turn v.finger r older v.second contact) (advanced-second s neck v F ready z r older contact (ap (λ a. a.advanced) eq)) eq

@@ -1,46 +1,29 @@
--- A booked step of a voice that is ready: what it answers, writes and books, by the step that it makes.
-use Rattle.std.specs.Prelude.{◌≡◌, List, [], ◌∷◌, ℕ, T, ℤ}
+-- A booked step of a voice that is ready, from its state: what it answers, writes and books, by the step that it makes.
+use Rattle.std.specs.Prelude.{◌≡◌, [], ◌∷◌, ℕ, T}
 use Rattle.std.proofs.Math.Path.{refl, ap}
 use Rattle.std.proofs.Common.{sym, ◌∙◌}
 use Rattle.model.specs.Ranges.{all, force_ok}
-use Rattle.model.specs.Refusal.{Answer, accepted, refused}
+use Rattle.model.specs.Refusal.{accepted}
 use Rattle.model.specs.Setup.{setup_rules}
 use Rattle.model.specs.Neck.{heights_rule}
 use Rattle.model.specs.State.{State, Neck, Forces}
 use Rattle.model.specs.Step.{worked_step, next_state, frame, buffers_rule, state_rule, step_rules, call_rules, result_rules, forces_rule}
-use Rattle.model.specs.Book.{Columns, columns, with_step}
+use Rattle.model.specs.Book.{Columns, with_step}
 use Rattle.model.specs.declared.Setup.{Setup}
-use Rattle.model.specs.declared.Book.{Book}
-use Rattle.model.specs.declared.BookedAnswer.{BookedAnswer}
-use Rattle.model.specs.declared.BookedAnswer.TheVariants.{Accepted, Refused}
 use Rattle.model.specs.declared.Stepped.{Stepped}
-use Rattle.model.specs.declared.StepAnswer.{StepAnswer}
 use Rattle.promises.specs.Promises.{Passed}
 use Rattle.laws.specs.Accepted.{StepFacts, examined}
 use Rattle.laws.specs.Booking.{ready_held}
 use Rattle.laws.specs.EnergySizes.{Held}
 use Rattle.laws.specs.Ready.{Ready, ready-next}
 use Rattle.laws.specs.Refusals.{append-passed, not-not, accepted-by}
-use Rattle.laws.specs.Advance.{Advanced, advanced_result, advance, late_rules}
+use Rattle.laws.specs.Advance.{Advanced, advance, late_rules}
+use Rattle.booked_step.specs.BookedStep.{if_accepted}
 
+-- the answer and what lies in the buffers, and the book after it
 pub record BookedAdvanced : Type 0 where
   pub advanced : Advanced
   pub book : Columns
-
-abbrev pub step_of : BookedAnswer → StepAnswer
-step_of (Accepted a) = StepAnswer.Accepted record { turn = a.turn; finger = a.finger; frame = a.frame }
-step_of (Refused n) = StepAnswer.Refused n
-
-abbrev pub book_after : Book → BookedAnswer → Columns
-book_after b (Accepted a) = columns a.book
-book_after b (Refused n) = columns b
-
-abbrev pub booked_advanced_result : Book → BookedAnswer → List ℤ → List ℤ → BookedAdvanced
-booked_advanced_result b r older contact = record { advanced = advanced_result (step_of r) older contact; book = book_after b r }
-
-abbrev pub if_accepted : {B : Type 0} → Answer B → Columns → Columns → Columns
-if_accepted (accepted a) new old = new
-if_accepted (refused n) new old = old
 
 unfoldable pub booked_advance : ℕ → Setup → Neck → State → Forces → Columns → BookedAdvanced
 booked_advance turn s neck x F b =

@@ -1,5 +1,5 @@
 -- The book after a step by the states before and after it, as the code has it; for an accepted step that is `with_step`.
-use Rattle.std.specs.Prelude.{◌≡◌, List, ◌+◌, ℤ, pos, ◌+ℤ◌, ◌-ℤ◌, ◌*ℤ◌}
+use Rattle.std.specs.Prelude.{◌≡◌, List, ℕ, take, ◌+◌, ℤ, pos, ◌+ℤ◌, ◌-ℤ◌, ◌*ℤ◌}
 use Rattle.std.proofs.Common.{sym, ◌∙◌, ap, ap₂}
 use Rattle.model.specs.Setup.{e}
 use Rattle.model.specs.Differences.{at, minus}
@@ -7,11 +7,13 @@ use Rattle.model.specs.State.{State, Neck, Forces}
 use Rattle.model.specs.Step.{cleared, worked_step}
 use Rattle.model.specs.Energy.{stored_energy, dot_all}
 use Rattle.model.specs.Book.{Columns, with_step}
+use Rattle.model.specs.Wide.{value}
 use Rattle.model.specs.declared.Setup.{Setup}
 use Rattle.laws.specs.Accepted.{StepFacts}
 use Rattle.laws.specs.Booking.{work_is, loss_is}
 use Rattle.laws.proofs.Booking.{rounding-left}
 use Rattle.laws.specs.EnergySizes.{moving_loss}
+use Rattle.booked_step.specs.declared.booking.Before as Declared
 
 -- the work of forces, from the string v and the finger height w' before to the string u and the height w
 unfoldable pub work_of : Setup → Forces → (u v : List ℤ) → (w w' : ℤ) → ℤ
@@ -23,6 +25,10 @@ pub record Before : Type 0 where
   pub released : ℤ
   pub older : List ℤ
   pub height : ℤ
+
+-- as the code keeps it, with a string of n points
+abbrev pub kept : ℕ → Declared.Before → Before
+kept n b = record { stored = value b.stored; released = b.released; older = take n b.older; height = b.height }
 
 abbrev pub with_parts : Setup → Columns → Before → State → Forces → Columns
 with_parts s b x y F =

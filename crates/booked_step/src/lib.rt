@@ -1,58 +1,42 @@
-// 02, item 6: a booked step, a step and its booking in one, whose arguments are all examined, in the order of its table of refusals. `turn` puts the two strings in
-// order, `advance` makes the step and books it, `booking` enters it by the states before and after, `keeping` keeps the string that a step overwrites.
+// 02, item 6: a booked step, a step and its booking in one, whose arguments are all examined, in the order of its table of refusals. `ready` makes the step and
+// books it; `booking` has what is kept of the state before it, and enters it by that and the state after it.
 #![tactic(auto)]
 
-pub mod advance;
 pub mod booking;
-pub mod keeping;
-pub mod turn;
+pub mod ready;
 
 ghost use Rattle.std.specs.Prelude.{◌≡◌};
-ghost use Rattle.model.specs.Answers.{booked_result};
 ghost use Rattle.model.specs.Book.{columns};
 ghost use Rattle.model.specs.Booking.{booked_step};
+ghost use Rattle.model.specs.Lending.{the_neck, the_lent, SameBuffers};
+ghost use Rattle.model.specs.Refusal.{answer_of};
 
-use crate::turn::booked_ready;
-use book::refusals::book_refusal;
-use examination::arguments::{buffers_refusal, state_refusal};
+use crate::ready::booked_ready;
+use book::refusals::examine_book;
+use examination::arguments::{examine_buffers, examine_state, in_order};
 use examination::rows::forces_ok;
-use model::{Book, BookedAnswer, Finger, Setup};
+use model::refusal::Refusal;
+use model::{Book, Forces, Frame, Lent, Neck, Setup};
 
-// Steps the voice as `step` does, and answers the book with the step in it too; or answers the number and leaves every buffer.
+// Steps the voice as `step` does, and enters the step in the book too; or answers the refusal and leaves all that is lent, and the book.
 pub fn step_booked(
     setup: Setup,
-    heights: &[i32],
-    stiffness: &[u16],
-    first: &mut [i32],
-    second: &mut [i32],
-    contact: &mut [i32],
-    turn: u32,
-    finger: Finger,
-    pluck: i32,
-    force: i32,
-    book: Book,
-) -> BookedAnswer
-    ensures { booked_result turn finger book result first.new second.new contact.new ≡ booked_step setup
-        (record { heights = heights.now; stiffness = stiffness.now })
-        (record { first = first.old; second = second.old; contact = contact.old; turn = turn; finger = finger })
-        (columns book) (record { pluck = pluck; finger = force }) }
+    neck: Neck,
+    lent: &mut Lent,
+    forces: Forces,
+    book: &mut Book,
+) -> Result<Frame, Refusal>
+    ensures same { SameBuffers lent.old lent.new }
+    ensures booked { record { answer = answer_of result; lent = the_lent lent.new; book = columns book.new }
+        ≡ booked_step setup (the_neck neck.entry) (the_lent lent.old) (columns book.old)
+        (record { pluck = forces.pluck; finger = forces.finger }) }
 {
-    let refusal = buffers_refusal(setup, heights, stiffness, first, second, contact);
-    if refusal != 0 {
-        return BookedAnswer::Refused(refusal);
+    let state = in_order(lent);
+    examine_buffers(setup, neck, state)?;
+    examine_state(neck.heights, state)?;
+    if !forces_ok(forces) {
+        return Err(Refusal::Force);
     }
-    let refusal = state_refusal(heights, first, second, contact, finger);
-    if refusal != 0 {
-        return BookedAnswer::Refused(refusal);
-    }
-    if !forces_ok(pluck, force) {
-        return BookedAnswer::Refused(12);
-    }
-    let refusal = book_refusal(book);
-    if refusal != 0 {
-        return BookedAnswer::Refused(refusal);
-    }
-    booked_ready(
-        setup, heights, stiffness, first, second, contact, turn, finger, pluck, force, book,
-    )
+    examine_book(*book)?;
+    booked_ready(setup, neck, lent, forces, book)
 }

@@ -4,10 +4,9 @@ ghost use Rattle.model.specs.Book.{columns};
 ghost use Rattle.model.specs.Booking.{booked_bend};
 ghost use Rattle.rows.specs.Rows.{setup_of, bent_view, bent_row};
 
-use model::{Book, Finger};
 use rows::bent_row::{BentRow, bent_row};
-use rows::setup_row::{SetupRow, setup_of};
-use voice::bend_booked;
+use rows::setup_row::SetupRow;
+use voice::{Book, Finger, Setup, bend_booked};
 
 // `voice::bend_booked`.
 #[unsafe(no_mangle)]
@@ -24,15 +23,16 @@ pub extern "C" fn sv_bend_booked(
     ensures { bent_view result ≡ bent_row setup (booked_bend (setup_of setup)
         (record { first = first.now; second = second.now; contact = contact.now; turn = turn; finger = finger }) (columns book) tension) }
 {
+    let mut entered = book;
     let answer = bend_booked(
-        setup_of(setup),
+        Setup::from(setup),
         tension,
         first,
         second,
         contact,
         turn,
         finger,
-        book,
+        &mut entered,
     );
-    bent_row(answer, setup, book)
+    bent_row(setup, answer, entered)
 }

@@ -4,9 +4,9 @@ ghost use Rattle.model.specs.Start.{start};
 ghost use Rattle.capi.specs.Calls.{start_call};
 ghost use Rattle.rows.specs.Rows.{setup_of, start_view};
 
-use rows::setup_row::{SetupRow, setup_of};
+use rows::setup_row::SetupRow;
 use rows::start_row::{StartRow, start_row};
-use voice::fresh_start;
+use voice::{Setup, fresh_start};
 
 // `voice::fresh_start`.
 #[unsafe(no_mangle)]
@@ -22,7 +22,7 @@ pub extern "C" fn sv_fresh_start(
         first.old second.old contact.old height older_height) }
 {
     start_row(fresh_start(
-        setup_of(setup),
+        Setup::from(setup),
         first,
         second,
         contact,

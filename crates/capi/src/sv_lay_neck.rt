@@ -4,9 +4,9 @@ ghost use Rattle.model.specs.Neck.{lay};
 ghost use Rattle.capi.specs.Calls.{neck_call};
 ghost use Rattle.rows.specs.Rows.{setup_of};
 
-use rows::numbers::neck_number;
-use rows::setup_row::{SetupRow, setup_of};
-use voice::lay_neck;
+use rows::numbers::refusal_number;
+use rows::setup_row::SetupRow;
+use voice::{Plan, Setup, lay_neck};
 
 // `voice::lay_neck`: the refusal, 0 where the neck is laid.
 #[unsafe(no_mangle)]
@@ -28,14 +28,12 @@ pub extern "C" fn sv_lay_neck(
       fret_stiffness = fret_stiffness;
     }) heights.old stiffness.old) }
 {
-    neck_number(lay_neck(
-        setup_of(setup),
+    let plan = Plan {
         board,
         board_stiffness,
         frets,
         tip,
         fret_stiffness,
-        heights,
-        stiffness,
-    ))
+    };
+    refusal_number(lay_neck(Setup::from(setup), plan, heights, stiffness))
 }

@@ -1,12 +1,12 @@
 // A block of steps, for C.
 ghost use Rattle.std.specs.Prelude.{◌≡◌};
-ghost use Rattle.model.specs.Answers.{block_result};
 ghost use Rattle.model.specs.Block.{block};
+ghost use Rattle.capi.specs.Calls.{block_call};
 ghost use Rattle.rows.specs.Rows.{setup_of};
 
-use model::{BlockAnswer, Finger};
-use rows::setup_row::{SetupRow, setup_of};
-use voice::play_block;
+use rows::block_row::{BlockRow, block_row};
+use rows::setup_row::SetupRow;
+use voice::{Finger, Lent, Neck, Setup, play_block};
 
 // `voice::play_block`.
 #[unsafe(no_mangle)]
@@ -21,22 +21,20 @@ pub extern "C" fn sv_play_block(
     finger: Finger,
     forces: &[i32],
     samples: &mut [f32],
-) -> BlockAnswer
-    ensures { block_result result first.new second.new contact.new samples.new ≡ block (setup_of setup)
+) -> BlockRow
+    ensures { record { row = result; first = first.new; second = second.new; contact = contact.new; samples = samples.new } ≡ block_call (block (setup_of setup)
         (record { heights = heights.now; stiffness = stiffness.now })
         (record { first = first.old; second = second.old; contact = contact.old; turn = turn; finger = finger })
-        forces.now samples.old }
+        forces.now samples.old) }
 {
-    play_block(
-        setup_of(setup),
-        heights,
-        stiffness,
+    let neck = Neck { heights, stiffness };
+    let mut lent = Lent {
         first,
         second,
         contact,
         turn,
         finger,
-        forces,
-        samples,
-    )
+    };
+    let played = play_block(Setup::from(setup), neck, &mut lent, forces, samples);
+    block_row(played, &lent)
 }

@@ -4,10 +4,9 @@ ghost use Rattle.model.specs.Step as Steps;
 ghost use Rattle.capi.specs.Calls.{step_call};
 ghost use Rattle.rows.specs.Rows.{setup_of};
 
-use model::Finger;
-use rows::setup_row::{SetupRow, setup_of};
+use rows::setup_row::SetupRow;
 use rows::step_row::{StepRow, step_row};
-use voice::step;
+use voice::{Finger, Forces, Lent, Neck, Setup, step};
 
 // `voice::step`.
 #[unsafe(no_mangle)]
@@ -28,17 +27,18 @@ pub extern "C" fn sv_step(
         (record { first = first.old; second = second.old; contact = contact.old; turn = turn; finger = finger })
         (record { pluck = pluck; finger = finger_force })) }
 {
-    let answer = step(
-        setup_of(setup),
-        heights,
-        stiffness,
+    let neck = Neck { heights, stiffness };
+    let mut lent = Lent {
         first,
         second,
         contact,
         turn,
         finger,
+    };
+    let forces = Forces {
         pluck,
-        finger_force,
-    );
-    step_row(answer, turn, finger)
+        finger: finger_force,
+    };
+    let answer = step(Setup::from(setup), neck, &mut lent, forces);
+    step_row(answer, &lent)
 }

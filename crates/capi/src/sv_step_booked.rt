@@ -5,10 +5,9 @@ ghost use Rattle.model.specs.Booking.{booked_step};
 ghost use Rattle.capi.specs.Calls.{booked_call};
 ghost use Rattle.rows.specs.Rows.{setup_of, booked_view};
 
-use model::{Book, Finger};
 use rows::booked_row::{BookedRow, booked_row};
-use rows::setup_row::{SetupRow, setup_of};
-use voice::step_booked;
+use rows::setup_row::SetupRow;
+use voice::{Book, Finger, Forces, Lent, Neck, Setup, step_booked};
 
 // `voice::step_booked`.
 #[unsafe(no_mangle)]
@@ -30,18 +29,19 @@ pub extern "C" fn sv_step_booked(
         (record { first = first.old; second = second.old; contact = contact.old; turn = turn; finger = finger })
         (columns book) (record { pluck = pluck; finger = finger_force })) }
 {
-    let answer = step_booked(
-        setup_of(setup),
-        heights,
-        stiffness,
+    let neck = Neck { heights, stiffness };
+    let mut lent = Lent {
         first,
         second,
         contact,
         turn,
         finger,
+    };
+    let forces = Forces {
         pluck,
-        finger_force,
-        book,
-    );
-    booked_row(answer, turn, finger, book)
+        finger: finger_force,
+    };
+    let mut entered = book;
+    let answer = step_booked(Setup::from(setup), neck, &mut lent, forces, &mut entered);
+    booked_row(answer, &lent, entered)
 }

@@ -2,79 +2,68 @@
 // A call is an operation's name, then each argument under its label, as whole numbers, a book by its words; a line that starts with '#' is printed as it is.
 #![tactic(auto)]
 
-ghost use Rattle.std.specs.Prelude.{◌≡◌, length};
-
 mod arguments;
-mod block_call;
-mod booked_bend_call;
-mod booked_step_call;
-mod changes;
-mod neck_call;
-mod newest;
-mod reading_call;
+mod call;
+mod necks;
+mod number;
+mod pieces;
 mod report;
-mod setup_call;
-mod start_call;
-mod step_call;
-mod words;
+mod room;
+mod setups;
+mod steps;
+mod strings;
 
-// Answers the call of a line.
-fn answer(line: &[u8]) {
-    if words::first_is(line, b"setup") {
-        setup_call::answer(line)
-    } else if words::first_is(line, b"bend") {
-        changes::answer_bend(line)
-    } else if words::first_is(line, b"bend_booked") {
-        booked_bend_call::answer(line)
-    } else if words::first_is(line, b"slide") {
-        changes::answer_slide(line)
-    } else if words::first_is(line, b"neck") {
-        neck_call::answer(line)
-    } else if words::first_is(line, b"start") {
-        start_call::answer(line)
-    } else if words::first_is(line, b"step") {
-        step_call::answer(line)
-    } else if words::first_is(line, b"step_booked") {
-        booked_step_call::answer(line)
-    } else if words::first_is(line, b"block") {
-        block_call::answer(line)
-    } else if words::first_is(line, b"newest") {
-        newest::answer(line)
-    } else if words::first_is(line, b"reading") {
-        reading_call::answer(line)
-    } else {
-        printing::text(b"no such operation")
+use call::{Call, Operation};
+use pieces::Pieces;
+use std::io;
+use std::io::Read;
+
+// How much of the input is read.
+const MOST_BYTES: u64 = 1048576;
+
+// Answers a call.
+fn answer(rt: &impl Print, call: Call) -> io::Result<()> {
+    let arguments = call.arguments;
+    match call.operation {
+        Operation::Setup => setups::answer_setup(rt, arguments),
+        Operation::Bend => setups::answer_bend(rt, arguments),
+        Operation::BendBooked => setups::answer_bend_booked(rt, arguments),
+        Operation::Slide => setups::answer_slide(rt, arguments),
+        Operation::Neck => necks::answer_neck(rt, arguments),
+        Operation::Start => steps::answer_start(rt, arguments),
+        Operation::Step => steps::answer_step(rt, arguments),
+        Operation::StepBooked => steps::answer_step_booked(rt, arguments),
+        Operation::Block => steps::answer_block(rt, arguments),
+        Operation::Newest => strings::answer_newest(rt, arguments),
+        Operation::Reading => strings::answer_reading(rt, arguments),
     }
-    printing::text(b"\n");
 }
 
-fn answer_or_print(line: &[u8]) {
-    if words::byte_at(line, 0) == b'#' {
-        printing::text(line);
-    } else {
-        answer(line);
+fn answer_or_print(rt: &impl Print, line: &[u8]) -> io::Result<()> {
+    if line.starts_with(b"#") {
+        return rt.write_all(line);
     }
+    match Call::parse(line) {
+        Some(call) => answer(rt, call)?,
+        None => print!(rt; "no such operation")?,
+    }
+    print!(rt; "\n")
 }
 
 // Answers every call of the text.
-fn answer_all(text: &[u8]) {
-    let mut at = 0;
-    while at < text.len() {
-        let next = words::after_line(text, at);
-        answer_or_print(&text[at..next]);
-        at = next;
+fn answer_all(rt: &impl Print, text: &[u8]) -> io::Result<()> {
+    let lines = Pieces {
+        rest: text,
+        end: b'\n',
+    };
+    for line in lines {
+        answer_or_print(rt, line)?;
     }
+    Ok(())
 }
 
-// Room for the calls.
-fn room() -> [u8; 1048576]
-    ensures { 1048576 ≡ length result }
-{
-    [0; 1048576]
-}
-
-fn main() {
-    let mut space = room();
-    let filled = io::read_full(0, &mut space);
-    answer_all(&space[..filled]);
+fn main(rt: HostRuntime) -> io::Result<()> {
+    let mut text = Vec::new(rt.alloc());
+    rt.reader().take(MOST_BYTES).read_to_end(&mut text)?;
+    answer_all(&rt, &text)
 }

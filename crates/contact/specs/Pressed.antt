@@ -1,6 +1,6 @@
 -- The pressed points, as a list of their indices, and the numbers and gradients of points by index.
-use Rattle.std.specs.Prelude.{◌≡◌, refl, List, ℕ, suc, ◌+◌, ◌≤◌, ◌<◌, ℤ, pos, ◌-ℤ◌, nat_abs, length, get_or, set, ◌≤ℤ◌, ◌<ℤ◌}
-use Rattle.std.proofs.Common.{sym, ◌∙◌, subst, ⊎_elim, zero-le, not-suc-le-zero, arith, below_more, length-set, get_or-set_same, get_or-set_other}
+use Rattle.std.specs.Prelude.{◌≡◌, refl, List, ℕ, suc, ◌+◌, ◌≤◌, ◌<◌, ℤ, pos, ◌-ℤ◌, nat_abs, length, get_or, set, take, ◌≤ℤ◌, ◌<ℤ◌}
+use Rattle.std.proofs.Common.{sym, ◌∙◌, subst, ⊎_elim, zero-le, not-suc-le-zero, arith, below_more, length-set, length-take-le, get_or-take, get_or-set_same, get_or-set_other}
 use Rattle.std.specs.Int.Signed.{le_z, clash_ℤ}
 use Rattle.integers.specs.Order.{<-or-≤}
 use Rattle.integers.specs.Tests.{le-le_z, lt-le_z}
@@ -42,7 +42,26 @@ pub record Listed (h u : List ℤ) (n : ℕ) (list : List ℕ) (count : ℕ) : T
   pub pressed : (j : ℕ) → j < count → Pressed h u (get_or list j 0)
   pub every : (i : ℕ) → i < n → Pressed h u i → (j : ℕ) × ((j < count) × (get_or list j 0 ≡ i))
 
+-- each entry is a pressed point of u
+pub record AllPressed (h u : List ℤ) (list : List ℕ) : Type 0 where
+  pub below : (j : ℕ) → j < length list → get_or list j 0 < length u
+  pub pressed : (j : ℕ) → j < length list → Pressed h u (get_or list j 0)
+
 module _ {h u : List ℤ} where
+  -- the listed points, as a list of their own
+  module _ {n : ℕ} {list : List ℕ} {count : ℕ} (l : Listed h u n list count) (most : n ≤ 127) where
+    pub front-long : length (take count list) ≡ count
+    front-long = length-take-le count list (let e = l.long in let f = l.few in omega arith)
+
+    pub front-entry : (j : ℕ) → j < count → get_or (take count list) j 0 ≡ get_or list j 0
+    front-entry j b = get_or-take count list j 0 b
+
+  pub front-pressed : {list : List ℕ} {count : ℕ} → Listed h u (length u) list count → length u ≤ 127 → AllPressed h u (take count list)
+  front-pressed {list} {count} l most = record {
+    below = λ j b. let k : j < count = rw (front-long l most) at b in rw (front-entry l most j k) (l.below j k);
+    pressed = λ j b. let k : j < count = rw (front-long l most) at b in rw (front-entry l most j k) (l.pressed j k);
+  }
+
   pub listed-none : {list : List ℕ} → length list ≡ 128 → Listed h u 0 list 0
   listed-none e = record { long = e; few = zero-le; below = λ j l. absurd (not-suc-le-zero l); pressed = λ j l. absurd (not-suc-le-zero l); every = λ i l. absurd (not-suc-le-zero l) }
 

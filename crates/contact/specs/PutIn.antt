@@ -1,11 +1,11 @@
 -- The gradients of the pressed points, put in over zeros, are those of all points.
-use Rattle.std.specs.Prelude.{◌≡◌, refl, Bool, true, false, ◌⊎◌, ℕ, zero, suc, ◌+◌, ◌<◌, T, eqb, ℤ, pos, negsuc, nat_abs, length, get_or, set, replicate, ◌≤ℤ◌}
+use Rattle.std.specs.Prelude.{◌≡◌, refl, Bool, true, false, ◌⊎◌, ℕ, zero, suc, ◌+◌, ◌≤◌, ◌<◌, T, eqb, ℤ, pos, negsuc, nat_abs, length, get_or, set, take, replicate, ◌≤ℤ◌}
 use Rattle.std.proofs.Common.{sym, ◌∙◌, ap, subst, inl, inr, ⊎_elim, le_of_suc-le-suc, not-suc-le-zero, arith, below_more, length-set, ext_get_or, get_or-set_same, get_or-set_other}
 use mathlib.Core.List.{List, [], ◌∷◌, zip_with}
 use Rattle.std.proofs.lemmas.List.{length-replicate}
 use Rattle.std.specs.Int.Signed.{le_z, le_z_yes}
 use Rattle.std.proofs.Math.Facts.{eqb_yes, eqb_no}
-use Rattle.integers.specs.Filled.{length-tabulate, get_d_tabulate, get_d_replicate}
+use Rattle.integers.specs.Filled.{Filled, Begun, length-tabulate, get_d_tabulate, get_d_replicate}
 use Rattle.integers.specs.Order.{<-or-≤}
 use Rattle.model.specs.Differences.{minus}
 use Rattle.model.specs.Gradient.{root, gradient}
@@ -15,7 +15,7 @@ use Rattle.laws.specs.LastMoves.{depth-above, depth_below}
 use Rattle.laws.specs.Refusals.{all-entry}
 use Rattle.laws.specs.Strings.{length-zip}
 use Rattle.contact.specs.Contacts.{gradients_at, gradients_in}
-use Rattle.contact.specs.Pressed.{Listed, depth_at, depths-span, depth-at, number_at, gradient_at, gradient-pressed}
+use Rattle.contact.specs.Pressed.{Listed, AllPressed, front-long, front-entry, depth_at, depths-span, depth-at, number_at, gradient_at, gradient-pressed}
 
 -- what is not negative is its size
 size-nonneg : (g : ℤ) → pos 0 ≤ℤ g → pos (nat_abs g) ≡ g
@@ -66,6 +66,18 @@ module _ (k : List ℕ) (h u : List ℤ) where
   -- a listed point's root is its gradient
   pub root-listed : {n : ℕ} {list : List ℕ} {count : ℕ} → Listed h u n list count → (j : ℕ) → j < count → root (number_at k h u (get_or list j 0)) ≡ gradient_at k h u (get_or list j 0)
   root-listed l j b = sym (ap nat_abs (gradient-pressed _ _ (depth-above (l.pressed j b))))
+
+  -- the root of its number, where the list is one of its own
+  pub root-put : {list : List ℕ} {count : ℕ} {numbers roots : List ℕ} → AllPressed h u list → length list ≡ count → Begun 0 128 (λ j. number_at k h u (get_or list j 0)) (length list) numbers
+      → Filled 0 128 (λ j. root (get_or numbers j 0)) count roots → (j : ℕ) → j < length list → get_or roots j 0 ≡ gradient_at k h u (get_or list j 0)
+  root-put l e numbers roots j b = roots.each j (rw (← e) b) ∙ ap root (numbers.filled.each j b) ∙ sym (ap nat_abs (gradient-pressed _ _ (depth-above (l.pressed j b))))
+
+  pub put-front : {n : ℕ} {list : List ℕ} {count : ℕ} {gs : List ℕ} → Listed h u n list count → n ≤ 127 → PutIn (take count list) (length (take count list)) gs → PutIn list count gs
+  put-front {list} {count} {gs} l most p = record {
+    long = p.long;
+    put = λ j b. subst (λ (i : ℕ). get_or gs i 0 ≡ gradient_at k h u i) (front-entry l most j b) (p.put j (rw (front-long l most) b));
+    either = p.either;
+  }
 
   module _ (heights : length h ≡ length u) (stiffness : length k ≡ length u) where
     depths-long : length (minus h u) ≡ length u

@@ -4,6 +4,8 @@ ghost use Rattle.model.specs.Differences.{at};
 ghost use Rattle.model.specs.Step.{kept};
 ghost use Rattle.contact.specs.Contacts.{kept_contacts};
 
+use model::State;
+
 // What is kept of a contact variable where the depth is high − low.
 pub fn contact_kept(high: i32, low: i32, variable: i32) -> i32
     ensures { result ≡ kept (high -ℤ low) variable }
@@ -12,9 +14,9 @@ pub fn contact_kept(high: i32, low: i32, variable: i32) -> i32
 }
 
 // What is kept of that of the point at place i + 1.
-pub fn kept_at(heights: &[i32], newer: &[i32], contact: &[i32], i: usize) -> i32
-    requires { (length heights.now ≡ length newer.now) × (length contact.now ≡ length newer.now) × (i < length newer.now) }
-    ensures { result ≡ at (kept_contacts heights.now newer.now contact.now) (suc i) }
+pub fn kept_at(heights: &[i32], state: State, i: usize) -> i32
+    requires { (length heights.now ≡ length state.newer.now) × (length state.contact.now ≡ length state.newer.now) × (i < length state.newer.now) }
+    ensures { result ≡ at (kept_contacts heights.now state.entry.newer.now state.entry.contact.now) (suc i) }
 {
-    contact_kept(heights[i], newer[i], contact[i])
+    contact_kept(heights[i], state.newer[i], state.contact[i])
 }

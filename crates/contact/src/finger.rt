@@ -9,7 +9,7 @@ ghost use Rattle.contact.specs.Contacts.{finger_depth};
 
 use crate::clearing::contact_kept;
 use crate::gradient::gradient;
-use model::{Finger, Setup};
+use model::{Setup, State};
 
 // A contact: its gradient, and what is kept of its variable.
 #[derive(Clone, Copy)]
@@ -19,18 +19,18 @@ pub struct Contact {
 }
 
 // The finger's, for its depth u(p) − w.
-pub fn finger_contact(setup: Setup, newer: &[i32], finger: Finger) -> Contact
-    requires { Passed (setup_rules setup) × (length newer.now ≡ points setup)
-        × T (all displacement_ok newer.now) × T (displacement_ok finger.newer) }
+pub fn finger_contact(setup: Setup, state: State) -> Contact
+    requires { Passed (setup_rules setup) × (length state.newer.now ≡ points setup)
+        × T (all displacement_ok state.newer.now) × T (displacement_ok state.finger.newer) }
     ensures { result ≡ record {
-      gradient = Gradient.gradient (K setup) (finger_depth setup newer.now finger);
-      variable = kept (finger_depth setup newer.now finger) finger.contact;
+      gradient = Gradient.gradient (K setup) (finger_depth setup state.entry.newer.now state.entry.finger);
+      variable = kept (finger_depth setup state.entry.newer.now state.entry.finger) state.entry.finger.contact;
     } }
 {
     let place = setup.finger.place as usize;
-    let own = newer[place - 1];
-    let height = finger.newer;
-    let contact = finger.contact;
+    let own = state.newer[place - 1];
+    let height = state.finger.newer;
+    let contact = state.finger.contact;
     let gradient = gradient(setup.finger.stiffness, own - height);
     let variable = contact_kept(own, height, contact);
     Contact { gradient, variable }

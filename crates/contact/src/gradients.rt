@@ -3,32 +3,24 @@ ghost use Rattle.std.specs.Prelude.{◌≡◌, ℕ, ◌≤◌, length, get_or, r
 ghost use Rattle.integers.specs.Filled.{Filled, Begun};
 ghost use Rattle.model.specs.Gradient.{root as root_of};
 ghost use Rattle.contact.specs.Contacts.{OverNeck, gradients_at, gradients_in};
-ghost use Rattle.contact.specs.Pressed.{Listed, number_at};
+ghost use Rattle.contact.specs.Pressed.{AllPressed, number_at};
 
 use crate::gradient::root_number;
 use crate::pressed::{list_pressed, none_pressed};
 use crate::root::root;
+use model::Neck;
 use model::bounds::{MOST_LISTED, MOST_POINTS};
 
 // Writes the numbers q of the listed points, in the order of the list, over zeros.
-fn write_numbers(
-    heights: &[i32],
-    stiffness: &[u16],
-    newer: &[i32],
-    list: &[u8; MOST_LISTED],
-    count: usize,
-    numbers: &mut [u16; MOST_LISTED],
-)
-    requires { OverNeck stiffness.now heights.now newer.now
-        × Listed heights.now newer.now (length newer.now) list.now count × (numbers.old ≡ replicate 128 0) }
-    ensures { Begun 0 128 (λ j. number_at stiffness.now heights.now newer.now (get_or list.now j 0)) count numbers.new }
+fn write_numbers(neck: Neck, newer: &[i32], list: &[u8], numbers: &mut [u16; MOST_LISTED])
+    requires { OverNeck neck.stiffness.now neck.heights.now newer.now
+        × AllPressed neck.heights.now newer.now list.now × (length list.now ≤ 127) × (numbers.old ≡ replicate 128 0) }
+    ensures { Begun 0 128 (λ j. number_at neck.entry.stiffness.now neck.entry.heights.now newer.now (get_or list.now j 0)) (length list.now) numbers.new }
 {
-    for j in 0..count {
-        let i = list[j] as usize;
-        let height = heights[i];
-        let own = newer[i];
-        let number = root_number(stiffness[i], height - own);
-        numbers[j] = number;
+    for (j, i) in list.iter().enumerate() {
+        let i = *i as usize;
+        let depth = neck.heights[i] - newer[i];
+        numbers[j] = root_number(neck.stiffness[i], depth);
     }
 }
 
@@ -44,27 +36,23 @@ fn write_roots(count: usize, numbers: &mut [u16; MOST_LISTED])
     }
 }
 
-// Writes the gradients of all points over zeros.
-pub fn point_gradients(
-    heights: &[i32],
-    stiffness: &[u16],
-    newer: &[i32],
-    gradients: &mut [u8; MOST_POINTS],
-)
-    requires { OverNeck stiffness.now heights.now newer.now × (gradients.old ≡ replicate 127 0) }
-    ensures { gradients_in (length newer.now) gradients.new ≡ gradients_at stiffness.now heights.now newer.now }
+// The gradients of all points, at the front.
+pub fn point_gradients(neck: Neck, newer: &[i32]) -> [u8; MOST_POINTS]
+    requires { OverNeck neck.stiffness.now neck.heights.now newer.now }
+    ensures { (length result ≡ 127) × (gradients_in (length newer.now) result ≡ gradients_at neck.entry.stiffness.now neck.entry.heights.now newer.now) }
 {
-    if none_pressed(heights, newer) {
-        return;
+    let mut gradients = [0u8; MOST_POINTS];
+    if none_pressed(neck.heights, newer) {
+        return gradients;
     }
     let mut list = [0u8; MOST_LISTED];
-    let count = list_pressed(heights, newer, &mut list);
+    let count = list_pressed(neck.heights, newer, &mut list);
+    let listed = &list[..count];
     let mut roots = [0u16; MOST_LISTED];
-    write_numbers(heights, stiffness, newer, &list, count, &mut roots);
+    write_numbers(neck, newer, listed, &mut roots);
     write_roots(count, &mut roots);
-    for j in 0..count {
-        let i = list[j] as usize;
-        let root = roots[j];
-        gradients[i] = root as u8;
+    for (j, i) in listed.iter().enumerate() {
+        gradients[*i as usize] = roots[j] as u8;
     }
+    gradients
 }

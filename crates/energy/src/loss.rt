@@ -14,8 +14,8 @@ use energy_sums::changes::changes;
 use energy_sums::contacts::{cleared_sum, let_go};
 use energy_sums::products::square;
 use energy_sums::rises::change_rises;
-use model::{Finger, Setup, Wide};
-use wide::sums::{added, widened};
+use model::{Setup, State, Wide};
+use wide::sums::added;
 
 // The loss of the moves δ: 2·Z·Σδ² + S·E(δ, δ), from these two sums.
 fn moving_loss(setup: Setup, change: i64, viscous: i64) -> Wide
@@ -24,25 +24,20 @@ fn moving_loss(setup: Setup, change: i64, viscous: i64) -> Wide
 {
     let z = setup.plain as i64;
     let s = setup.viscous as i64;
-    added(widened(2 * z * change), s * viscous)
+    added(Wide::from(2 * z * change), s * viscous)
 }
 
 // The energy let go before a step: twice the square of each contact variable that is cleared, of the points and of the finger.
-pub fn released_energy(
-    setup: Setup,
-    heights: &[i32],
-    newer: &[i32],
-    contact: &[i32],
-    finger: Finger,
-) -> i64
-    requires { Passed (setup_rules setup) × Contacts heights.now newer.now contact.now × (length newer.now ≡ points setup) × (finger.contact within 67108864) }
-    ensures { result ≡ released_energy setup heights.now newer.now contact.now finger }
+pub fn released_energy(setup: Setup, heights: &[i32], state: State) -> i64
+    requires { Passed (setup_rules setup) × Contacts heights.now state.newer.now state.contact.now
+        × (length state.newer.now ≡ points setup) × (state.finger.contact within 67108864) }
+    ensures { result ≡ released_energy setup heights.now state.entry.newer.now state.entry.contact.now state.entry.finger }
 {
     let place = setup.finger.place as usize;
-    let own = newer[place - 1];
-    let height = finger.newer;
-    let variable = finger.contact;
-    let points = cleared_sum(heights, newer, contact);
+    let own = state.newer[place - 1];
+    let height = state.finger.newer;
+    let variable = state.finger.contact;
+    let points = cleared_sum(heights, state.newer, state.contact);
     let own_square = square(let_go(own, height, variable));
     2 * (points + own_square)
 }

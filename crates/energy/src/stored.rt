@@ -2,6 +2,7 @@
 ghost use Rattle.std.specs.Prelude.{◌≡◌, [], ◌∷◌, pos};
 ghost use Rattle.integers.specs.Machine.{Within};
 ghost use Rattle.model.specs.Energy.{stored_energy};
+ghost use Rattle.model.specs.Lending.{the_state};
 ghost use Rattle.model.specs.Setup.{setup_rules};
 ghost use Rattle.model.specs.Wide.{value};
 ghost use Rattle.promises.specs.Promises.{Passed};
@@ -12,8 +13,8 @@ use energy_sums::bends::bends;
 use energy_sums::changes::changes;
 use energy_sums::contacts::contact_sum;
 use energy_sums::rises::{change_rises, rises};
-use model::{Finger, Setup, Wide};
-use wide::sums::{four, plus};
+use model::{Finger, Setup, State, Wide};
+use wide::sums::four;
 
 // The string's part: 8192·Σa² + 2·L·E(u, v) + 2·M·Σ D1u·D1v − S·E(a, a), from these four sums.
 fn string_energy(setup: Setup, change: i64, tension: i64, stiffness: i64, viscous: i64) -> Wide
@@ -45,22 +46,17 @@ fn rest_energy(mass: u32, contacts: i64, finger: Finger) -> Wide
     four(2 * contacts, half, half, 2 * (own * own))
 }
 
-pub fn stored_energy(
-    setup: Setup,
-    newer: &[i32],
-    older: &[i32],
-    contact: &[i32],
-    finger: Finger,
-) -> Wide
-    requires { Held setup (record { newer = newer.now; older = older.now; contact = contact.now; finger = finger }) }
-    ensures { value result ≡ stored_energy setup (record { newer = newer.now; older = older.now; contact = contact.now; finger = finger }) }
+// The whole of it.
+pub fn stored_energy(setup: Setup, state: State) -> Wide
+    requires { Held setup (the_state state) }
+    ensures { value result ≡ stored_energy setup (the_state state.entry) }
 {
-    let change = changes(newer, older);
-    let tension = rises(newer, older);
-    let stiffness = bends(newer, older);
-    let viscous = change_rises(newer, older);
-    let contacts = contact_sum(contact);
+    let change = changes(state.newer, state.older);
+    let tension = rises(state.newer, state.older);
+    let stiffness = bends(state.newer, state.older);
+    let viscous = change_rises(state.newer, state.older);
+    let contacts = contact_sum(state.contact);
     let string = string_energy(setup, change, tension, stiffness, viscous);
-    let rest = rest_energy(setup.finger.mass, contacts, finger);
-    plus(string, rest)
+    let rest = rest_energy(setup.finger.mass, contacts, state.finger);
+    string + rest
 }

@@ -9,35 +9,34 @@ ghost use Rattle.promises.specs.Promises.{Passed};
 ghost use Rattle.laws.specs.EnergySizes.{Strings};
 
 use energy_sums::rises::rises;
-use model::{Setup, Wide};
+use model::{Forces, Setup, Wide};
 use wide::product::product;
 
-// The work of both forces by the displacements before and after the step, at the pluck place and of the finger.
-fn work_of(pluck: i32, force: i32, new: i32, older: i32, height: i32, before: i32) -> i64
-    requires { Within (pluck ∷ force ∷ new ∷ older ∷ height ∷ before ∷ []) (1073741824 ∷ 1073741824 ∷ 1048576 ∷ 1048576 ∷ 1048576 ∷ 1048576 ∷ []) }
-    ensures { result ≡ pos 2 *ℤ pluck *ℤ (new -ℤ older) +ℤ pos 2 *ℤ force *ℤ (height -ℤ before) }
+// The work of a force over a move, between two displacements or heights.
+fn work_of(force: i32, new: i32, older: i32) -> i64
+    requires { Within (force ∷ new ∷ older ∷ []) (1073741824 ∷ 1048576 ∷ 1048576 ∷ []) }
+    ensures { result ≡ pos 2 *ℤ force *ℤ (new -ℤ older) }
 {
-    2 * (pluck as i64) * ((new - older) as i64) + 2 * (force as i64) * ((height - before) as i64)
+    2 * (force as i64) * ((new - older) as i64)
 }
 
 // The work of a step from the older string to the new one, and from the older finger height to the new one.
 pub fn step_work(
     setup: Setup,
-    pluck: i32,
-    force: i32,
+    forces: Forces,
     new: &[i32],
     older: &[i32],
     height: i32,
     before: i32,
 ) -> i64
     requires { Passed (setup_rules setup) × Strings new.now older.now × (length new.now ≡ points setup)
-        × T (force_ok pluck) × T (force_ok force) × T (displacement_ok height) × T (displacement_ok before) }
-    ensures { result ≡ pos 2 *ℤ pluck *ℤ at (minus new.now older.now) setup.pluck_place +ℤ pos 2 *ℤ force *ℤ (height -ℤ before) }
+        × T (force_ok forces.pluck) × T (force_ok forces.finger) × T (displacement_ok height) × T (displacement_ok before) }
+    ensures { result ≡ pos 2 *ℤ forces.pluck *ℤ at (minus new.now older.now) setup.pluck_place +ℤ pos 2 *ℤ forces.finger *ℤ (height -ℤ before) }
 {
     let place = setup.pluck_place as usize;
-    let x = new[place - 1];
-    let y = older[place - 1];
-    work_of(pluck, force, x, y, height, before)
+    let pluck = work_of(forces.pluck, new[place - 1], older[place - 1]);
+    let finger = work_of(forces.finger, height, before);
+    pluck + finger
 }
 
 // 2·(L' − L)·E(u, v), of any two tensions: up to 2^82.

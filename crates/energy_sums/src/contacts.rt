@@ -1,23 +1,22 @@
 // 01, 'Energy', and 02, item 3: the squares of the contact variables, of all and of those that are cleared before a step.
-ghost use Rattle.std.specs.Prelude.{◌≡◌, suc, ◌≤◌, ◌<◌, T, ◌-ℤ◌, ◌*ℤ◌, length};
-ghost use Rattle.model.specs.Differences.{at, dot};
-ghost use Rattle.model.specs.Ranges.{all, contact_ok};
+ghost use Rattle.std.specs.Prelude.{◌≡◌, ◌≤◌, T, pos, ◌-ℤ◌, length};
+ghost use Rattle.model.specs.Differences.{dot};
+ghost use Rattle.model.specs.Ranges.{all, inside, contact_ok};
 ghost use Rattle.model.specs.Step.{let_go};
 ghost use Rattle.energy_sums.specs.Contacts.{Contacts, cleared_contacts};
 
-use crate::products::square;
-use ranges::numbers::all_inside_i32;
+use crate::lines::Line;
+use crate::squares::squares;
 
-// Σ ψ², one after the other.
-fn contact_squares(contact: &[i32]) -> i64
-    requires { (length contact.now ≤ 127) × T (all contact_ok contact.now) }
-    ensures { result ≡ dot contact.now contact.now }
+// No number is other than 0. The scan reads them all and has no early exit, so that the compiler takes several at once.
+fn all_zero(numbers: &[i32]) -> bool
+    ensures { result ≡ all (λ x. inside (pos 0) x (pos 0)) numbers.now }
 {
-    let mut total = 0i64;
-    for i in 0..contact.len() {
-        total += square(contact[i]);
+    let mut zero = true;
+    for number in numbers {
+        zero &= *number == 0;
     }
-    total
+    zero
 }
 
 // Σ ψ². A string that touches nothing has no contact variable other than 0: a scan for that is quicker than the squares.
@@ -25,10 +24,10 @@ pub fn contact_sum(contact: &[i32]) -> i64
     requires { (length contact.now ≤ 127) × T (all contact_ok contact.now) }
     ensures { result ≡ dot contact.now contact.now }
 {
-    if all_inside_i32(contact, 0, 0) {
+    if all_zero(contact) {
         return 0;
     }
-    contact_squares(contact)
+    squares(contact, contact.len())
 }
 
 // What is let go of a contact variable where the depth is high − low: 0 where it is above 0.
@@ -38,28 +37,25 @@ pub fn let_go(high: i32, low: i32, variable: i32) -> i32
     if low < high { 0 } else { variable }
 }
 
-// The square of what is let go at index i.
-fn cleared_square(heights: &[i32], newer: &[i32], contact: &[i32], i: usize) -> i64
-    requires { Contacts heights.now newer.now contact.now × (i < length contact.now) }
-    ensures { result ≡ at (cleared_contacts heights.now newer.now contact.now) (suc i)
-        *ℤ at (cleared_contacts heights.now newer.now contact.now) (suc i) }
-{
-    let height = heights[i];
-    let own = newer[i];
-    let variable = contact[i];
-    square(let_go(height, own, variable))
+// What is let go at each point, of a neck's heights, the newer string and the contact variables.
+#[derive(Clone, Copy)]
+struct Cleared<'a> {
+    heights: &'a [i32],
+    newer: &'a [i32],
+    contact: &'a [i32],
 }
 
-// Σ of these over the points, one after the other.
-fn cleared_squares(heights: &[i32], newer: &[i32], contact: &[i32]) -> i64
-    requires { Contacts heights.now newer.now contact.now }
-    ensures { result ≡ dot (cleared_contacts heights.now newer.now contact.now) (cleared_contacts heights.now newer.now contact.now) }
-{
-    let mut total = 0i64;
-    for i in 0..contact.len() {
-        total += cleared_square(heights, newer, contact, i);
+impl Line for Cleared<'_> {
+    ghost numbers = { λ x. cleared_contacts x.heights.now x.newer.now x.contact.now };
+
+    ghost ready = { λ x. Contacts x.heights.now x.newer.now x.contact.now };
+
+    fn number(&self, i: usize) -> i32 {
+        let height = self.heights[i];
+        let own = self.newer[i];
+        let variable = self.contact[i];
+        let_go(height, own, variable)
     }
-    total
 }
 
 // Σ of the squares of the contact variables of the points that are cleared; none is other than 0 where no variable is.
@@ -67,8 +63,15 @@ pub fn cleared_sum(heights: &[i32], newer: &[i32], contact: &[i32]) -> i64
     requires { Contacts heights.now newer.now contact.now }
     ensures { result ≡ dot (cleared_contacts heights.now newer.now contact.now) (cleared_contacts heights.now newer.now contact.now) }
 {
-    if all_inside_i32(contact, 0, 0) {
+    if all_zero(contact) {
         return 0;
     }
-    cleared_squares(heights, newer, contact)
+    squares(
+        Cleared {
+            heights,
+            newer,
+            contact,
+        },
+        contact.len(),
+    )
 }

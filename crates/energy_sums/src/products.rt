@@ -4,10 +4,10 @@ ghost use Rattle.integers.specs.Size.{◌within◌};
 ghost use Rattle.energy_sums.specs.Raised as Raised;
 ghost use Rattle.energy_sums.specs.Raised.{raise};
 
-use model::bounds::LARGEST_DISPLACEMENT;
+use model::bounds::DISPLACEMENT;
 
 // What is added to a rise or to a bend so that it is not negative.
-pub const RAISE: i32 = 4 * LARGEST_DISPLACEMENT;
+pub const RAISE: i32 = 4 * DISPLACEMENT.largest;
 
 const RAISED_SQUARE: i64 = (RAISE as i64) * (RAISE as i64);
 
@@ -37,19 +37,11 @@ pub fn lowered(total: i64, terms: usize) -> i64
     total - RAISED_SQUARE * (terms as i64)
 }
 
-// The size of x.
-fn magnitude(x: i32) -> u32
-    requires { x within 67108864 }
-    ensures { result ≡ nat_abs x }
-{
-    if x < 0 { (0 - x) as u32 } else { x as u32 }
-}
-
 // x·x.
 pub fn square(x: i32) -> i64
     requires { x within 67108864 }
     ensures { result ≡ x *ℤ x }
 {
-    let size = magnitude(x);
+    let size = x.unsigned_abs();
     ((size as u64) * (size as u64)) as i64
 }

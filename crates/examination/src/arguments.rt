@@ -1,62 +1,60 @@
 // 01, 'What each operation turns down': the arguments that a step and a block share. Setup and buffers, 1 to 5 and 6, and then neck and state, 7 and 11,
 // whatever the turn.
 ghost use Rattle.std.specs.Prelude.{◌≡◌, ℕ};
-ghost use Rattle.laws.specs.Call.{buffer_rows, state_rows};
-ghost use Rattle.model.specs.Refusal.{first_of};
+ghost use Rattle.laws.specs.Advance.{in_order};
+ghost use Rattle.laws.specs.Call.{lent_with, buffer_rows, state_rows};
+ghost use Rattle.model.specs.Lending.{the_neck, the_lent, the_state};
+ghost use Rattle.model.specs.Refusal.{first_of, refusal_of};
 ghost use Rattle.model.specs.State.{state_of};
-ghost use Rattle.model.specs.declared.Finger as Fingers;
 
 use crate::rows::state_ok;
-use model::{Finger, Setup};
-use ranges::lengths::five_lengths_ok;
-use ranges::numbers::heights_ok;
-use setup::setup_refusal;
+use model::refusal::Refusal;
+use model::{Lent, Neck, Setup, State};
+use ranges::lengths::lengths_ok;
+use ranges::numbers::{Height, all_hold};
+use setup::examine_setup;
 
-// 1 to 5 and 6, or 0.
-pub fn buffers_refusal(
-    setup: Setup,
-    heights: &[i32],
-    stiffness: &[u16],
-    first: &[i32],
-    second: &[i32],
-    contact: &[i32],
-) -> u32
-    ensures { (turn : ℕ) (finger : Fingers.Finger) → result ≡ first_of (buffer_rows setup (record { heights = heights.now; stiffness = stiffness.now })
-        (state_of (record { first = first.now; second = second.now; contact = contact.now; turn = turn; finger = finger }))) }
+// What is lent, to be looked at: the strings in the order in which they are lent.
+pub fn in_order<'a>(lent: &'a Lent) -> State<'a>
+    ensures { the_state result ≡ in_order (the_lent lent.now) }
 {
-    let refusal = setup_refusal(setup);
-    if refusal != 0 {
-        return refusal;
+    State {
+        newer: lent.first,
+        older: lent.second,
+        contact: lent.contact,
+        finger: lent.finger,
     }
-    if !five_lengths_ok(
-        setup,
-        heights.len(),
-        stiffness.len(),
-        first.len(),
-        second.len(),
-        contact.len(),
-    ) {
-        return 6;
-    }
-    0
 }
 
-// 7 and 11, or 0.
-pub fn state_refusal(
-    heights: &[i32],
-    first: &[i32],
-    second: &[i32],
-    contact: &[i32],
-    finger: Finger,
-) -> u32
-    ensures { (turn : ℕ) → result ≡ first_of (state_rows heights.now
-        (state_of (record { first = first.now; second = second.now; contact = contact.now; turn = turn; finger = finger }))) }
+// Their refusal, 1 to 5 or 6, if they have one. The strings are in the order in which they are lent.
+pub fn examine_buffers(setup: Setup, neck: Neck, state: State) -> Result<(), Refusal>
+    ensures { (turn : ℕ) → refusal_of result ≡ first_of (buffer_rows setup (the_neck neck.entry)
+        (state_of (lent_with turn state.entry.finger state.entry.newer.now state.entry.older.now state.entry.contact.now))) }
 {
-    if !heights_ok(heights) {
-        return 7;
+    examine_setup(setup)?;
+    let lengths = [
+        neck.heights.len(),
+        neck.stiffness.len(),
+        state.newer.len(),
+        state.older.len(),
+        state.contact.len(),
+    ];
+    if !lengths_ok(setup, &lengths) {
+        return Err(Refusal::BufferLength);
     }
-    if !state_ok(first, second, contact, finger) {
-        return 11;
+    Ok(())
+}
+
+// Their refusal, 7 or 11, if they have one. The strings are in the order in which they are lent.
+pub fn examine_state(heights: &[i32], state: State) -> Result<(), Refusal>
+    ensures { (turn : ℕ) → refusal_of result ≡ first_of (state_rows heights.now
+        (state_of (lent_with turn state.entry.finger state.entry.newer.now state.entry.older.now state.entry.contact.now))) }
+{
+    if !all_hold::<Height>(heights) {
+        return Err(Refusal::Height);
     }
-    0
+    if !state_ok(state) {
+        return Err(Refusal::State);
+    }
+    Ok(())
 }

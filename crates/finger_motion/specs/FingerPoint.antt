@@ -32,25 +32,26 @@ at_finger s y G F = record {
 module _ (s : Setup) (b ψ : ℤ) (finger : Finger) (f : ℤ) (q : ℤ × ℤ) where
   -- the last gradients and moves
   abbrev pub last_worked : WorkedPair
-  last_worked = let g = last_pair s b ψ finger f q in record { own = g.0; gradient = g.1; delta = point_move s b ψ finger f q; finger_delta = finger_move s b ψ finger f q }
+  last_worked = let g = last_pair s b ψ finger f q in record { left = record { own = g.0; finger = g.1 }; moves = record { delta = point_move s b ψ finger f q; finger_delta = finger_move s b ψ finger f q } }
 
   -- the last working comes to them, since it drops nothing
   pub worked-last : {r : WorkedPair} → PairAt s b ψ finger f (last_pair s b ψ finger f q) r → r ≡ last_worked
   worked-last h = λ i. record {
-    own = (ap (λ g. g.0) (h.gradients ∙ last-pair-stays s b ψ finger f q)) i;
-    gradient = (ap (λ g. g.1) (h.gradients ∙ last-pair-stays s b ψ finger f q)) i;
-    delta = h.delta i;
-    finger_delta = h.finger-delta i;
+    left = record {
+      own = (ap (λ g. g.0) (h.gradients ∙ last-pair-stays s b ψ finger f q)) i;
+      finger = (ap (λ g. g.1) (h.gradients ∙ last-pair-stays s b ψ finger f q)) i;
+    };
+    moves = record { delta = h.delta i; finger_delta = h.finger-delta i };
   }
 
   module _ (ranges : PairRanges s b ψ finger f) (pair : Pair q) where
     last : Pair (last_pair s b ψ finger f q)
     last = Pair-left s b ψ finger f (Pair-left s b ψ finger f pair)
 
-    pub worked-sizes : Within (ψ ∷ last_worked.own ∷ last_worked.gradient ∷ last_worked.delta ∷ last_worked.finger_delta ∷ []) worked_sizes
+    pub worked-sizes : Within (ψ ∷ last_worked.left.own ∷ last_worked.left.finger ∷ last_worked.moves.delta ∷ last_worked.moves.finger_delta ∷ []) worked_sizes
     worked-sizes = ranges.contact ▹ last.own.0 ▹ last.gradient.0 ▹ (move-small ranges last).move ▹ finger-move-size ranges last ▹ ∅
 
-    pub worked-change : (last_worked.own *ℤ last_worked.delta) within change_size
+    pub worked-change : (last_worked.left.own *ℤ last_worked.moves.delta) within change_size
     worked-change = (move-small ranges last).change
 
 -- ---- what a step gives the workings

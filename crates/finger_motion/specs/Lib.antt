@@ -1,3 +1,4 @@
--- What the contracts cite beside the model and the laws: a working of the finger's system, and what a step comes to at p.
+-- What the contracts cite beside the model and the laws: the finger's moves, a working of the finger's system, and what a step comes to at p.
+pub mod Moves
 pub mod Pair
 pub mod FingerPoint

@@ -40,9 +40,9 @@ pub record Pair (q : ℤ × ℤ) : Type 0 where
 module _ (s : Setup) (b ψ : ℤ) (finger : Finger) (f : ℤ) where
   -- r is worked out with the gradients q: the gradients that are left, and the moves
   pub record PairAt (q : ℤ × ℤ) (r : WorkedPair) : Type 0 where
-    pub gradients : ◌≡◌ {A = ℤ × ℤ} (r.own, r.gradient) (left_of_pair s b ψ finger f q)
-    pub delta : r.delta ≡ rounded₁ (worked_system s b ψ finger f q)
-    pub finger-delta : r.finger_delta ≡ rounded₂ (worked_system s b ψ finger f q)
+    pub gradients : ◌≡◌ {A = ℤ × ℤ} (r.left.own, r.left.finger) (left_of_pair s b ψ finger f q)
+    pub delta : r.moves.delta ≡ rounded₁ (worked_system s b ψ finger f q)
+    pub finger-delta : r.moves.finger_delta ≡ rounded₂ (worked_system s b ψ finger f q)
 
 -- ---- how large the moves are, and the numbers that the machine passes on
 
@@ -102,9 +102,9 @@ module _ (s : Setup) (b ψ : ℤ) (finger : Finger) (f : ℤ) {q : ℤ × ℤ} (
 
 module _ {s : Setup} {b ψ : ℤ} {finger : Finger} {f : ℤ} {q : ℤ × ℤ} {r : WorkedPair} (h : Pair q) (k : PairAt s b ψ finger f q r) where
   -- the gradients that are left
-  pub left-pair : Pair (r.own, r.gradient)
+  pub left-pair : Pair (r.left.own, r.left.finger)
   left-pair = rw k.gradients (Pair-left s b ψ finger f h)
 
   -- where their sum is what it was, the working is also that with what is left
-  pub stays : r.own +ℤ r.gradient ≡ q.0 +ℤ q.1 → PairAt s b ψ finger f (left_of_pair s b ψ finger f q) r
+  pub stays : r.left.own +ℤ r.left.finger ≡ q.0 +ℤ q.1 → PairAt s b ψ finger f (left_of_pair s b ψ finger f q) r
   stays e = rw (unchanged s b ψ finger f h (sym (ap (λ z. z.0 +ℤ z.1) k.gradients) ∙ e)) k

@@ -5,6 +5,7 @@ ghost use Rattle.integers.specs.Size.{◌within◌};
 ghost use Rattle.laws.specs.MoveSizes.{move_size};
 ghost use Rattle.model.specs.Ranges.{displacement_ok, contact_ok};
 
+use crate::system::Moves;
 use model::Finger;
 
 // The finger's new height, w' + δw.
@@ -16,11 +17,11 @@ pub fn next_height(older: i32, delta: i64) -> i64
 }
 
 // The finger's new contact variable, φ + g·(δ − δw).
-pub fn next_finger_contact(contact: i32, gradient: i64, delta: i64, finger_delta: i64) -> i64
-    requires { (gradient within 255) × (delta within move_size) × (finger_delta within 2 ^ 44) }
-    ensures { result ≡ contact +ℤ gradient *ℤ (delta -ℤ finger_delta) }
+pub fn next_finger_contact(contact: i32, gradient: i64, moves: Moves) -> i64
+    requires { (gradient within 255) × (moves.delta within move_size) × (moves.finger_delta within 2 ^ 44) }
+    ensures { result ≡ contact +ℤ gradient *ℤ (moves.delta -ℤ moves.finger_delta) }
 {
-    (contact as i64) + gradient * (delta - finger_delta)
+    (contact as i64) + gradient * (moves.delta - moves.finger_delta)
 }
 
 // The finger's new height and contact variable, before they are judged.
@@ -30,13 +31,13 @@ pub struct NewFinger {
     pub contact: i64,
 }
 
-// The new finger, from its gradient g, the move δ of the point under it and its own move δw.
-pub fn new_finger(finger: Finger, gradient: i64, delta: i64, finger_delta: i64) -> NewFinger
-    requires { (gradient within 255) × (delta within move_size) × (finger_delta within 2 ^ 44) }
-    ensures { result ≡ record { height = finger.older +ℤ finger_delta; contact = finger.contact +ℤ gradient *ℤ (delta -ℤ finger_delta) } }
+// The new finger, from its gradient g and the moves.
+pub fn new_finger(finger: Finger, gradient: i64, moves: Moves) -> NewFinger
+    requires { (gradient within 255) × (moves.delta within move_size) × (moves.finger_delta within 2 ^ 44) }
+    ensures { result ≡ record { height = finger.older +ℤ moves.finger_delta; contact = finger.contact +ℤ gradient *ℤ (moves.delta -ℤ moves.finger_delta) } }
 {
-    let height = next_height(finger.older, finger_delta);
-    let contact = next_finger_contact(finger.contact, gradient, delta, finger_delta);
+    let height = next_height(finger.older, moves.finger_delta);
+    let contact = next_finger_contact(finger.contact, gradient, moves);
     NewFinger { height, contact }
 }
 

@@ -2,97 +2,89 @@
 ghost use Rattle.laws.specs.LastMoves.{left_of_pair, last_pair};
 ghost use Rattle.finger_motion.specs.Pair.{PairRanges, Pair, PairAt};
 
-use crate::system::finger_moves;
+use crate::system::{Moves, finger_moves};
 use model::{Finger, Setup};
 use motion::equation::{point_factor, point_side};
 use motion::pulling::gradient_left;
 
-// What a working comes to: the gradients of the point and of the finger after the drop, and the two moves.
+// What the workings of a step share: c of the point without its contact, the contact variable of the point, the finger after clearing, and its force.
+#[derive(Clone, Copy)]
+pub struct PairInput {
+    pub side: i64,
+    pub contact: i32,
+    pub finger: Finger,
+    pub force: i32,
+}
+
+// The gradients of the point and of the finger.
+#[derive(Clone, Copy)]
+pub struct Gradients {
+    pub own: i64,
+    pub finger: i64,
+}
+
+// What a working comes to: the gradients after the drop, and the moves.
 #[derive(Clone, Copy)]
 pub struct WorkedPair {
-    pub own: i64,
-    pub gradient: i64,
-    pub delta: i64,
-    pub finger_delta: i64,
+    pub left: Gradients,
+    pub moves: Moves,
 }
 
-// A working. `own` is the gradient of the point, `gradient` the finger's, `contact` the point's contact variable and `side` its c without the contact.
-fn work_pair(
-    setup: Setup,
-    side: i64,
-    contact: i32,
-    finger: Finger,
-    force: i32,
-    own: i64,
-    gradient: i64,
-) -> WorkedPair
-    requires { PairRanges setup side contact finger force × Pair (own, gradient) }
-    ensures { PairAt setup side contact finger force (own, gradient) result }
+// A working with these gradients.
+fn work_pair(setup: Setup, input: PairInput, gradients: Gradients) -> WorkedPair
+    requires { PairRanges setup input.side input.contact input.finger input.force × Pair (gradients.own, gradients.finger) }
+    ensures { PairAt setup input.side input.contact input.finger input.force (gradients.own, gradients.finger) result }
 {
-    let factor = point_factor(setup, own);
-    let whole = point_side(side, own, contact);
-    let pair = finger_moves(setup, finger, factor, whole, gradient, force);
-    let delta = pair[0];
-    let finger_delta = pair[1];
-    let held = finger.contact;
-    let own_left = gradient_left(own, contact, own * delta);
-    let finger_left = gradient_left(gradient, held, gradient * (finger_delta - delta));
-    WorkedPair {
+    let contact = input.contact;
+    let held = input.finger.contact;
+    let factor = point_factor(setup, gradients.own);
+    let whole = point_side(input.side, gradients.own, contact);
+    let moves = finger_moves(
+        setup,
+        input.finger,
+        factor,
+        whole,
+        gradients.finger,
+        input.force,
+    );
+    let change = gradients.own * moves.delta;
+    let finger_change = gradients.finger * (moves.finger_delta - moves.delta);
+    let own_left = gradient_left(gradients.own, contact, change);
+    let finger_left = gradient_left(gradients.finger, held, finger_change);
+    let left = Gradients {
         own: own_left,
-        gradient: finger_left,
-        delta,
-        finger_delta,
-    }
+        finger: finger_left,
+    };
+    WorkedPair { left, moves }
 }
 
-// The working after `worked`, which was with these two gradients: with what it leaves of them, and so itself where it leaves both.
+// The working after `worked`, which was with these gradients: with what it leaves of them, and so itself where it leaves both.
 fn work_again(
     setup: Setup,
-    side: i64,
-    contact: i32,
-    finger: Finger,
-    force: i32,
-    own: i64,
-    gradient: i64,
+    input: PairInput,
+    gradients: Gradients,
     worked: WorkedPair,
 ) -> WorkedPair
-    requires { PairRanges setup side contact finger force × Pair (own, gradient) × PairAt setup side contact finger force (own, gradient) worked }
-    ensures { PairAt setup side contact finger force (left_of_pair setup side contact finger force (own, gradient)) result }
+    requires { PairRanges setup input.side input.contact input.finger input.force × Pair (gradients.own, gradients.finger)
+        × PairAt setup input.side input.contact input.finger input.force (gradients.own, gradients.finger) worked }
+    ensures { PairAt setup input.side input.contact input.finger input.force
+        (left_of_pair setup input.side input.contact input.finger input.force (gradients.own, gradients.finger)) result }
 {
-    let own_left = worked.own;
-    let finger_left = worked.gradient;
-    if own_left + finger_left == own + gradient {
+    let left = worked.left;
+    if left.own + left.finger == gradients.own + gradients.finger {
         worked
     } else {
-        work_pair(setup, side, contact, finger, force, own_left, finger_left)
+        work_pair(setup, input, left)
     }
 }
 
 // The last working: the third, and so any later one too.
-pub fn settle_pair(
-    setup: Setup,
-    side: i64,
-    contact: i32,
-    finger: Finger,
-    force: i32,
-    own: i64,
-    gradient: i64,
-) -> WorkedPair
-    requires { PairRanges setup side contact finger force × Pair (own, gradient) }
-    ensures { PairAt setup side contact finger force (last_pair setup side contact finger force (own, gradient)) result }
+pub fn settle_pair(setup: Setup, input: PairInput, gradients: Gradients) -> WorkedPair
+    requires { PairRanges setup input.side input.contact input.finger input.force × Pair (gradients.own, gradients.finger) }
+    ensures { PairAt setup input.side input.contact input.finger input.force
+        (last_pair setup input.side input.contact input.finger input.force (gradients.own, gradients.finger)) result }
 {
-    let first = work_pair(setup, side, contact, finger, force, own, gradient);
-    let own_left = first.own;
-    let finger_left = first.gradient;
-    let second = work_again(setup, side, contact, finger, force, own, gradient, first);
-    work_again(
-        setup,
-        side,
-        contact,
-        finger,
-        force,
-        own_left,
-        finger_left,
-        second,
-    )
+    let first = work_pair(setup, input, gradients);
+    let second = work_again(setup, input, gradients, first);
+    work_again(setup, input, first.left, second)
 }

@@ -13,11 +13,11 @@ ghost use Rattle.motion.specs.MoveRanges.{PointRanges, FingerRanges, worked_size
 ghost use Rattle.finger_motion.specs.FingerPoint.{at_finger};
 
 use crate::next::new_finger;
-use crate::pair::{WorkedPair, settle_pair};
+use crate::pair::{Gradients, PairInput, WorkedPair, settle_pair};
 use contact::clearing::kept_at;
 use contact::finger::finger_contact;
 use model::bounds::{MOST_PLACES, MOST_POINTS};
-use model::{Finger, Setup};
+use model::{Finger, Forces, Setup, State};
 use motion::equation::free_side;
 use motion::points::force_at;
 
@@ -32,20 +32,20 @@ pub struct FingerPoint {
 
 // Those that a working leads to. `contact` is the contact variable of the point, `finger` the finger after clearing.
 fn next_at_finger(contact: i32, finger: Finger, worked: WorkedPair) -> FingerPoint
-    requires { Within (contact ∷ worked.own ∷ worked.gradient ∷ worked.delta ∷ worked.finger_delta ∷ []) worked_sizes × ((worked.own *ℤ worked.delta) within change_size) }
+    requires { Within (contact ∷ worked.left.own ∷ worked.left.finger ∷ worked.moves.delta ∷ worked.moves.finger_delta ∷ []) worked_sizes
+        × ((worked.left.own *ℤ worked.moves.delta) within change_size) }
     ensures { result ≡ record {
-      delta = worked.delta;
-      contact = contact -ℤ worked.own *ℤ worked.delta;
-      height = finger.older +ℤ worked.finger_delta;
-      finger_contact = finger.contact +ℤ worked.gradient *ℤ (worked.delta -ℤ worked.finger_delta);
+      delta = worked.moves.delta;
+      contact = contact -ℤ worked.left.own *ℤ worked.moves.delta;
+      height = finger.older +ℤ worked.moves.finger_delta;
+      finger_contact = finger.contact +ℤ worked.left.finger *ℤ (worked.moves.delta -ℤ worked.moves.finger_delta);
     } }
 {
-    let own = worked.own;
-    let delta = worked.delta;
-    let next = new_finger(finger, worked.gradient, delta, worked.finger_delta);
+    let delta = worked.moves.delta;
+    let next = new_finger(finger, worked.left.finger, worked.moves);
     FingerPoint {
         delta: delta as i32,
-        contact: ((contact as i64) - own * delta) as i32,
+        contact: ((contact as i64) - worked.left.own * delta) as i32,
         height: next.height,
         finger_contact: next.contact,
     }
@@ -57,40 +57,42 @@ pub fn settle_finger(
     heights: &[i32],
     gradients: &[u8; MOST_POINTS],
     weights: &[i64; MOST_PLACES],
-    newer: &[i32],
-    older: &[i32],
-    contact: &[i32],
-    finger: Finger,
-    pluck: i32,
-    force: i32,
+    state: State,
+    forces: Forces,
 ) -> FingerPoint
-    requires { PointRanges setup heights.now newer.now older.now contact.now (gradients_in (points setup) gradients.now) pluck
-        × (weights.now ≡ placed (Weights.weighted setup newer.now older.now))
-        × FingerRanges finger × T (force_ok force) }
+    requires { PointRanges setup heights.now state.newer.now state.older.now state.contact.now (gradients_in (points setup) gradients.now) forces.pluck
+        × (weights.now ≡ placed (Weights.weighted setup state.newer.now state.older.now))
+        × FingerRanges state.finger × T (force_ok forces.finger) }
     ensures { result ≡ at_finger setup
-        (record { newer = newer.now; older = older.now; contact = kept_contacts heights.now newer.now contact.now; finger = kept_finger setup newer.now finger })
-        (record { points = gradients_in (points setup) gradients.now; finger = gradient (K setup) (finger_depth setup newer.now finger) })
-        (record { pluck = pluck; finger = force }) }
+        (record {
+          newer = state.entry.newer.now;
+          older = state.entry.older.now;
+          contact = kept_contacts heights.now state.entry.newer.now state.entry.contact.now;
+          finger = kept_finger setup state.entry.newer.now state.entry.finger;
+        })
+        (record { points = gradients_in (points setup) gradients.now; finger = gradient (K setup) (finger_depth setup state.entry.newer.now state.entry.finger) })
+        (record { pluck = forces.pluck; finger = forces.finger }) }
 {
     let place = setup.finger.place as usize;
     let own = gradients[place - 1];
-    let variable = kept_at(heights, newer, contact, place - 1);
-    let held = finger_contact(setup, newer, finger);
-    let pluck_at = force_at(setup, pluck, place);
-    let side = free_side(setup, weights, newer, older, pluck_at, place - 1);
+    let variable = kept_at(heights, state, place - 1);
+    let held = finger_contact(setup, state);
+    let pluck_at = force_at(setup, forces.pluck, place);
+    let side = free_side(setup, weights, state, pluck_at, place - 1);
     let kept = Finger {
-        newer: finger.newer,
-        older: finger.older,
         contact: held.variable,
+        ..state.finger
     };
-    let pair = settle_pair(
-        setup,
+    let input = PairInput {
         side,
-        variable,
-        kept,
-        force,
-        own as i64,
-        held.gradient,
-    );
+        contact: variable,
+        finger: kept,
+        force: forces.finger,
+    };
+    let both = Gradients {
+        own: own as i64,
+        finger: held.gradient,
+    };
+    let pair = settle_pair(setup, input, both);
     next_at_finger(variable, kept, pair)
 }

@@ -5,13 +5,20 @@ ghost use Rattle.model.specs.Ranges.{force_ok};
 ghost use Rattle.model.specs.Setup.{setup_rules};
 ghost use Rattle.model.specs.Step.{finger_system};
 ghost use Rattle.promises.specs.Promises.{Passed};
-ghost use Rattle.rounding.specs.Systems.{rounded};
 ghost use Rattle.motion.specs.MoveRanges.{FingerRanges};
+ghost use Rattle.finger_motion.specs.Moves.{moves_of};
 
 use model::{Finger, Setup};
-use rounding::system::solve;
+use rounding::system::System;
 
-// The finger's moves: δ at p and δw, where the point's equation is factor·δ = side without the finger. 73,217 is the largest A, 4096 + 4096 + 255².
+// δ at p and δw.
+#[derive(Clone, Copy)]
+pub struct Moves {
+    pub delta: i64,
+    pub finger_delta: i64,
+}
+
+// The finger's moves, where the point's equation is factor·δ = side without the finger. 73,217 is the largest A, 4096 + 4096 + 255².
 pub fn finger_moves(
     setup: Setup,
     finger: Finger,
@@ -19,26 +26,27 @@ pub fn finger_moves(
     side: i64,
     gradient: i64,
     force: i32,
-) -> [i64; 2]
+) -> Moves
     requires { Passed (setup_rules setup) × FingerRanges finger
         × (pos 0 <ℤ factor) × (factor within 73217) × (side within 2 ^ 37)
         × (gradient within 255) × T (force_ok force) }
-    ensures { result ≡ rounded (finger_system setup finger factor side gradient force) }
+    ensures { result ≡ moves_of (finger_system setup finger factor side gradient force) }
 {
-    let mass = setup.finger.mass;
-    let newer = finger.newer;
-    let older = finger.older;
-    let contact = finger.contact;
+    let mass = setup.finger.mass as i64;
     let square = gradient * gradient;
-    let pull = 2 * gradient * (contact as i64);
-    let change = (newer as i64) - (older as i64);
-    let matrix = [
-        [factor + square, -square],
-        [-square, (mass as i64) + square],
-    ];
-    let right = [
-        side - pull,
-        2 * (mass as i64) * change + (force as i64) + pull,
-    ];
-    solve(matrix, right)
+    let pull = 2 * gradient * (finger.contact as i64);
+    let change = (finger.newer as i64) - (finger.older as i64);
+    let system = System {
+        a11: factor + square,
+        a12: -square,
+        a21: -square,
+        a22: mass + square,
+        b1: side - pull,
+        b2: 2 * mass * change + (force as i64) + pull,
+    };
+    let solution = system.solve();
+    Moves {
+        delta: solution.x,
+        finger_delta: solution.y,
+    }
 }

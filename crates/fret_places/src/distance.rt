@@ -37,6 +37,7 @@ fn distance(segments: u32, q: u32) -> u32
 }
 
 // The place of fret q.
+#[tactic(auto, using(laws::specs::Frets::distance_most), unfolding(model::specs::Frets::fret_place))]
 pub fn place(segments: u32, q: u32) -> u32
     requires { (2 ≤ segments) × (segments ≤ 128) × (q ≤ 24) }
     ensures { result ≡ fret_place segments q }

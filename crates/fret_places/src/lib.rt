@@ -9,41 +9,40 @@ pub mod powers;
 ghost use Rattle.std.specs.Prelude.{◌≡◌};
 ghost use Rattle.model.specs.Answers.{frets_result};
 ghost use Rattle.model.specs.Frets.{fret_rules, frets};
-ghost use Rattle.model.specs.Refusal.{first_of};
+ghost use Rattle.model.specs.Refusal.{first_of, refusal_of};
 
 use crate::list::{clash, write_places};
-use model::FretsAnswer;
 use model::bounds::{LEAST_SEGMENTS, MOST_FRETS, MOST_SEGMENTS};
+use model::refusal::Refusal;
 use ranges::numbers::between;
 
-// The refusal of a list of frets in a buffer of this length, or 0.
-fn fret_refusal(segments: u32, number: u32, length: usize) -> u32
-    ensures { result ≡ first_of (fret_rules segments number length) }
+// The refusal of a list of frets in a buffer of this length, if it has one.
+#[tactic(auto, unfolding(model::specs::Frets::fret_rules, model::specs::Ranges::between))]
+fn examine_frets(segments: u32, number: u32, length: usize) -> Result<(), Refusal>
+    ensures { refusal_of result ≡ first_of (fret_rules segments number length) }
 {
     if !between(LEAST_SEGMENTS, segments, MOST_SEGMENTS) {
-        return 1;
+        return Err(Refusal::Segments);
     }
     let asked = number as usize;
     if MOST_FRETS < asked {
-        return 18;
+        return Err(Refusal::FretCount);
     }
     if length != asked {
-        return 6;
+        return Err(Refusal::BufferLength);
     }
     if clash(segments, number) {
-        return 19;
+        return Err(Refusal::FretPlace);
     }
-    0
+    Ok(())
 }
 
-// Writes the places of the first `number` frets on a string of so many segments into the lent buffer, or answers the refusal and leaves it.
-pub fn fret_places(segments: u32, number: u32, places: &mut [u32]) -> FretsAnswer
+// Writes the places of the first `number` frets on a string of so many segments into the lent buffer, or turns the call down and leaves it.
+#[tactic(auto, unfolding(model::specs::Frets::frets))]
+pub fn fret_places(segments: u32, number: u32, places: &mut [u32]) -> Result<(), Refusal>
     ensures { frets_result result places.new ≡ frets segments number places.old }
 {
-    let refusal = fret_refusal(segments, number, places.len());
-    if refusal != 0 {
-        return FretsAnswer::Refused(refusal);
-    }
+    examine_frets(segments, number, places.len())?;
     write_places(segments, places);
-    FretsAnswer::Accepted
+    Ok(())
 }

@@ -1,18 +1,18 @@
 -- 02, item 6: the promise of the book over lists of calls from a fresh start.
-use Rattle.std.specs.Prelude.{◌≡◌, Bool, true, false, not, ◌&&◌, ◌||◌, ℕ, zero, suc, ◌+◌, ◌*◌, ◌^◌, ◌≤◌, T, eqb, ℤ, pos, neg_ℤ, ◌+ℤ◌, ◌-ℤ◌, drop, replicate, ◌≤ℤ◌}
+use Rattle.std.specs.Prelude.{◌≡◌, Bool, true, ℕ, zero, suc, ◌+◌, ◌*◌, ◌^◌, ◌≤◌, T, ℤ, pos, neg_ℤ, ◌+ℤ◌, ◌-ℤ◌, drop, replicate, ◌≤ℤ◌}
 use Rattle.std.proofs.Math.Path.{refl, subst}
 use Rattle.std.proofs.Common.{sym, ◌∙◌, ap}
 use mathlib.Core.List.{List, [], ◌∷◌, ◌++◌}
 use native.Mathlib.Omega.{arith}
 use Rattle.std.proofs.lemmas.List.{length-replicate}
 use Rattle.std.specs.Int.Signed.{le_z, le_z_yes}
-use Rattle.std.proofs.Math.Facts.{yes_eqb, no_eqb, yes_and, and_yes, T_not-not}
+use Rattle.std.proofs.Math.Facts.{no_eqb, yes_and, and_yes, T_not-not}
 use Rattle.integers.specs.Tests.{is_true}
 use Rattle.integers.specs.Solve.{◌⊕◌, ◌⊖◌, #◌, ◌≐◌, solve}
 use Rattle.integers.specs.Order.{≤_trans}
 use Rattle.integers.specs.Size.{◌within◌, ◌⟨+⟩◌, ◌⟨-⟩◌, num, weaken, wide}
 use Rattle.model.specs.Ranges.{all, inside, displacement_ok, contact_ok}
-use Rattle.model.specs.Refusal.{Rule, ◌when◌, first_of, Answer, accepted, refused, unless}
+use Rattle.model.specs.Refusal.{Answer, accepted, refused}
 use Rattle.model.specs.Setup.{points, setup, setup_rules}
 use Rattle.model.specs.Changes.{with_tension, with_place, bend, slide}
 use Rattle.model.specs.State.{State, Lent, state_of, put, Neck, Forces}
@@ -28,7 +28,7 @@ use Rattle.model.specs.declared.Setup.{Setup}
 use Rattle.model.specs.declared.Frame.{Frame}
 use Rattle.promises.specs.Promises.{Passed}
 use Rattle.promises.specs.Book.{NeverFull, EnergyBook}
-use Rattle.laws.specs.Refusals.{fails, passed-append, not-not, yes-all, never_both, accepted-by}
+use Rattle.laws.specs.Refusals.{fails, passed-append, not-not, yes-all, never_both, never-answered, accepted-by}
 use Rattle.laws.specs.Accepted.{state_made, step-refused}
 use Rattle.laws.specs.Sizes.{within-inside}
 use Rattle.laws.specs.Changes.{bend-balance, slide-balance}
@@ -319,28 +319,6 @@ module _ (neck : Neck) (e₀ : ℤ) where
           }
 
 -- ---- 17 is never given
-
--- a row with this number holds
-abbrev holds_at : ℕ → List Rule → Bool
-holds_at n [] = false
-holds_at n ((k when b) ∷ rules) = (eqb n k && b) || holds_at n rules
-
-never_first : (n : ℕ) (rules : List Rule) → T (not (holds_at (suc n) rules)) → first_of rules ≡ suc n → ⊥
-never_first n [] t e = omega arith
-never_first n ((k when true) ∷ rules) t e = let q : eqb (suc n) k ≡ true = is_true (eqb (suc n) k) (yes_eqb (sym e)) in (rw q at t)
-never_first n ((k when false) ∷ rules) t e = never_first n rules (go (eqb (suc n) k) t) e
-  where
-    go : (b : Bool) → T (not ((b && false) || holds_at (suc n) rules)) → T (not (holds_at (suc n) rules))
-    go true t = t
-    go false t = t
-
-never-answered : {B R : Type 0} (answer : R → Answer B) (rules : List Rule) (result : R) (turned_down : ℕ → R) (n : ℕ) → ((n : ℕ) → answer (turned_down n) ≡ refused n) → (b : B) → answer result ≡ accepted b
-    → T (not (holds_at (suc n) rules)) → answer (unless (first_of rules) result turned_down) ≡ refused (suc n) → ⊥
-never-answered answer rules result turned_down n q b a t = go (first_of rules) refl
-  where
-    go : (m : ℕ) → first_of rules ≡ m → answer (unless m result turned_down) ≡ refused (suc n) → ⊥
-    go zero e r = never_both r a
-    go (suc m) e r = let same : suc m ≡ suc n = cc (q (suc m)) in never_first n rules t (e ∙ same)
 
 never-full : (neck : Neck) {e₀ : ℤ} {k : Kept} → Sound e₀ k → NeverFull neck k
 unfolding booked_step booked_rules call_rules result_rules setup_rules booked_bend bent_rules

@@ -13,8 +13,6 @@ use Rattle.model.specs.Step.{worked_step, next_state, buffers_rule, state_ok, fo
 use Rattle.model.specs.Answers.{step_result}
 use Rattle.model.specs.declared.Setup.{Setup}
 use Rattle.model.specs.declared.Stepped.{Stepped}
-use Rattle.model.specs.declared.StepAnswer.{StepAnswer}
-use Rattle.model.specs.declared.StepAnswer.TheVariants.{Accepted, Refused}
 use Rattle.laws.specs.Refusals.{all-parts}
 use Rattle.laws.specs.Ready.{Ready, rows_left}
 
@@ -24,12 +22,8 @@ pub record Advanced : Type 0 where
   pub older : List ℤ
   pub contact : List ℤ
 
-abbrev pub step_answer : StepAnswer → Answer Stepped
-step_answer (Accepted a) = accepted a
-step_answer (Refused n) = refused n
-
-abbrev pub advanced_result : StepAnswer → List ℤ → List ℤ → Advanced
-advanced_result r older contact = record { answer = step_answer r; older = older; contact = contact }
+abbrev pub advanced_result : Answer Stepped → List ℤ → List ℤ → Advanced
+advanced_result r older contact = record { answer = r; older = older; contact = contact }
 
 -- the rows that are left
 unfoldable pub late_rules : Setup → Neck → State → Forces → List Rule
@@ -47,26 +41,21 @@ advance turn s neck x F =
 
 module _ (v : Lent) where
   -- the result of a step that answered r and left these in the buffers of the older string and of the contact variables
-  abbrev pub stepped_result : StepAnswer → List ℤ → List ℤ → StepResult
+  abbrev pub stepped_result : Answer Stepped → List ℤ → List ℤ → StepResult
   stepped_result r older contact = step_result v.turn v.finger r (by_turn v.turn v.first older) (by_turn v.turn older v.second) contact
 
   abbrev stepped : Advanced → StepResult
-  stepped a = stepped_result (go a.answer) a.older a.contact
-    where
-      go : Answer Stepped → StepAnswer
-      go (accepted a) = Accepted a
-      go (refused n) = Refused n
+  stepped a = stepped_result a.answer a.older a.contact
 
-  stepped-result : (r : StepAnswer) (older contact : List ℤ) → stepped_result r older contact ≡ stepped (advanced_result r older contact)
-  stepped-result (Accepted a) older contact = refl
-  stepped-result (Refused n) older contact = refl
+  stepped-result : (r : Answer Stepped) (older contact : List ℤ) → stepped_result r older contact ≡ stepped (advanced_result r older contact)
+  stepped-result r older contact = refl
 
   -- where both are as they were, all that was lent is
-  untouched : (n : ℕ) → stepped_result (Refused n) (state_of v).older (state_of v).contact ≡ record { answer = refused n; lent = v }
+  untouched : (n : ℕ) → stepped_result (refused n) (state_of v).older (state_of v).contact ≡ record { answer = refused n; lent = v }
   unfolding state_of
   untouched n = go v.turn
     where
-      go : (t : ℕ) → step_result v.turn v.finger (Refused n) (by_turn t v.first (by_turn t v.second v.first)) (by_turn t (by_turn t v.second v.first) v.second) v.contact ≡ record { answer = refused n; lent = v }
+      go : (t : ℕ) → step_result v.turn v.finger (refused n) (by_turn t v.first (by_turn t v.second v.first)) (by_turn t (by_turn t v.second v.first) v.second) v.contact ≡ record { answer = refused n; lent = v }
       go zero = refl
       go (suc t) = refl
 
@@ -78,7 +67,7 @@ late-rows : (s : Setup) (neck : Neck) (x : State) (F : Forces) → Ready s neck 
 unfolding step_rules call_rules setup_rules late_rules
 late-rows s neck x F ready = rows_left ready (late_rules s neck x F)
 
-pub by-advance : (s : Setup) (neck : Neck) (v : Lent) (F : Forces) → Ready s neck (state_of v) → (r : StepAnswer) (older contact : List ℤ)
+pub by-advance : (s : Setup) (neck : Neck) (v : Lent) (F : Forces) → Ready s neck (state_of v) → (r : Answer Stepped) (older contact : List ℤ)
     → advanced_result r older contact ≡ advance (by_turn v.turn 1 0) s neck (state_of v) F → stepped_result v r older contact ≡ step s neck v F
 unfolding step advance put
 by-advance s neck v F ready r older contact e =
@@ -126,23 +115,23 @@ module _ (s : Setup) (neck : Neck) (v : Lent) (F : Forces) where
   at_turn t = record { first = v.first; second = v.second; contact = v.contact; turn = t; finger = v.finger }
 
   -- at turn 0 the first string is newer
-  pub advanced-first : Ready s neck (state_of v) → v.turn ≡ 0 → (r : StepAnswer) (older contact : List ℤ)
+  pub advanced-first : Ready s neck (state_of v) → v.turn ≡ 0 → (r : Answer Stepped) (older contact : List ℤ)
       → advanced_result r older contact ≡ advance 1 s neck (with_strings v v.first v.second) F → step_result v.turn v.finger r v.first older contact ≡ step s neck v F
   unfolding state_of
   advanced-first = go v.turn
     where
-      go : (t : ℕ) → Ready s neck (state_of (at_turn t)) → t ≡ 0 → (r : StepAnswer) (older contact : List ℤ)
+      go : (t : ℕ) → Ready s neck (state_of (at_turn t)) → t ≡ 0 → (r : Answer Stepped) (older contact : List ℤ)
           → advanced_result r older contact ≡ advance 1 s neck (with_strings v v.first v.second) F → step_result t v.finger r v.first older contact ≡ step s neck (at_turn t) F
       go zero ready z r older contact e = by-advance s neck (at_turn 0) F ready r older contact e
       go (suc t) ready z r older contact e = absurd (omega arith)
 
   -- at any other number the second is
-  pub advanced-second : Ready s neck (state_of v) → (v.turn ≡ 0 → ⊥) → (r : StepAnswer) (older contact : List ℤ)
+  pub advanced-second : Ready s neck (state_of v) → (v.turn ≡ 0 → ⊥) → (r : Answer Stepped) (older contact : List ℤ)
       → advanced_result r older contact ≡ advance 0 s neck (with_strings v v.second v.first) F → step_result v.turn v.finger r older v.second contact ≡ step s neck v F
   unfolding state_of
   advanced-second = go v.turn
     where
-      go : (t : ℕ) → Ready s neck (state_of (at_turn t)) → (t ≡ 0 → ⊥) → (r : StepAnswer) (older contact : List ℤ)
+      go : (t : ℕ) → Ready s neck (state_of (at_turn t)) → (t ≡ 0 → ⊥) → (r : Answer Stepped) (older contact : List ℤ)
           → advanced_result r older contact ≡ advance 0 s neck (with_strings v v.second v.first) F → step_result t v.finger r older v.second contact ≡ step s neck (at_turn t) F
       go zero ready z r older contact e = absurd (z refl)
       go (suc t) ready z r older contact e = by-advance s neck (at_turn (suc t)) F ready r older contact e

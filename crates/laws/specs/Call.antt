@@ -1,8 +1,9 @@
 -- What a step and a block are both given, and the rows that they share, as two tables of their own: 1 to 5 and 6, then 7 and 11.
 use Rattle.std.specs.Prelude.{◌≡◌, List, [], ◌∷◌, ◌++◌, ℕ, ℤ}
+use Rattle.std.proofs.Common.{subst}
 use Rattle.model.specs.Refusal.{Rule, first_of}
 use Rattle.model.specs.Setup.{setup_rules}
-use Rattle.model.specs.State.{State, Lent, Neck}
+use Rattle.model.specs.State.{State, Lent, state_of, Neck}
 use Rattle.model.specs.Neck.{heights_rule}
 use Rattle.model.specs.Step.{buffers_rule, state_rule}
 use Rattle.model.specs.declared.Setup.{Setup}
@@ -10,6 +11,7 @@ use Rattle.model.specs.declared.Finger.{Finger}
 use Rattle.promises.specs.Promises.{Passed}
 use Rattle.laws.specs.Refusals.{passed, passed-append, Reached, reached-back, front-number}
 use Rattle.laws.specs.Ready.{Ready}
+use Rattle.laws.specs.Advance.{in_order}
 
 -- what is lent, by its parts
 abbrev pub lent_with : ℕ → Finger → (first second contact : List ℤ) → Lent
@@ -43,3 +45,8 @@ module _ (s : Setup) (neck : Neck) (x : State) where
       let (setup, buffers) = passed-append (setup_rules s) (buffers_rule s neck x ∷ []) (buffers-passed e) in
       let state = passed (state_rows neck.heights x) tt f in
       record { setup = setup; buffers = buffers; heights = (state.0, tt); state = state.1 }
+
+-- rows that hold for any turn, of the strings in the order in which they are lent, are those of what is lent
+pub judged-in-order : (v : Lent) (rows : State → List Rule) (n : ℕ) {x : State} → x ≡ in_order v
+    → ((turn : ℕ) → n ≡ first_of (rows (state_of (lent_with turn x.finger x.newer x.older x.contact)))) → n ≡ first_of (rows (state_of v))
+judged-in-order v rows n e judged = subst (λ (x : State). n ≡ first_of (rows (state_of (lent_with v.turn x.finger x.newer x.older x.contact)))) e (judged v.turn)

@@ -1,5 +1,6 @@
 -- Why document 01's voice is safe: theorems about the model. The proofs of the promises, and what they can't do without, are in proofs/, in the file `Demands` there; these files lead to them.
 pub mod Refusals
+pub mod Answered
 pub mod InRange
 pub mod Strings
 pub mod Nearest

@@ -2,16 +2,14 @@
 use Rattle.std.specs.Prelude.{◌≡◌, List, [], ◌∷◌, ◌++◌, ℕ, zero, suc, ◌+◌, ◌*◌, ◌/◌, ◌≤◌, ◌<◌, ℤ, pos, Float, length, get_or, take, drop, set}
 use Rattle.std.proofs.Math.Path.{refl, ap}
 use Rattle.std.proofs.Common.{sym, ◌∙◌, ap₂, subst, append_assoc, add-zero, zero-add, le_of_suc-le-suc, arith, take-append-drop, length-drop, length-append, drop-cons, drop-drop, length-take-le, take_at, drop_at}
-use Rattle.model.specs.Refusal.{accepted, refused}
+use Rattle.model.specs.Refusal.{Answer, accepted, refused}
 use Rattle.model.specs.State.{Lent, state_of, Neck, Forces}
 use Rattle.model.specs.Step.{StepResult, step}
 use Rattle.model.specs.Block.{pairs, BlockResult, stopped, step_made, play}
-use Rattle.model.specs.Answers.{step_result, block_result}
+use Rattle.model.specs.Answers.{step_result}
 use Rattle.model.specs.declared.Setup.{Setup}
 use Rattle.model.specs.declared.Frame.{Frame}
 use Rattle.model.specs.declared.Stepped.{Stepped}
-use Rattle.model.specs.declared.StepAnswer.{StepAnswer}
-use Rattle.model.specs.declared.StepAnswer.TheVariants.{Accepted, Refused}
 use Rattle.laws.specs.Accepted.{accepted-step}
 use Rattle.laws.specs.Ready.{Ready, ready-next}
 use Rattle.laws.specs.Call.{lent_with}
@@ -117,21 +115,21 @@ module _ (s : Setup) (neck : Neck) where
     ended e = stopped-here (pairs-ended forces n (omega arith)) (play-ended v (drop (2 * n) samples)) ∙ ap (λ (n : ℕ). record { count = n; refusal = 0; lent = v; samples = samples }) e
 
 -- one step more, which answered r and left these in the buffers
-pub record OneMore (s : Setup) (neck : Neck) (forces : List ℤ) (v : Lent) (n : ℕ) (r : StepAnswer) (first second contact : List ℤ) : Type 0 where
+pub record OneMore (s : Setup) (neck : Neck) (forces : List ℤ) (v : Lent) (n : ℕ) (r : Answer Stepped) (first second contact : List ℤ) : Type 0 where
   pub below : n < length forces / 2
   pub result : step_result v.turn v.finger r first second contact ≡ step s neck v (forces_at forces n)
 
-module _ {s : Setup} {neck : Neck} {forces : List ℤ} {v : Lent} {n : ℕ} {r : StepAnswer} {first second contact : List ℤ} (more : OneMore s neck forces v n r first second contact) where
-  answered : {a : StepAnswer} → r ≡ a → step_result v.turn v.finger a first second contact ≡ step s neck v (forces_at forces n)
+module _ {s : Setup} {neck : Neck} {forces : List ℤ} {v : Lent} {n : ℕ} {r : Answer Stepped} {first second contact : List ℤ} (more : OneMore s neck forces v n r first second contact) where
+  answered : {a : Answer Stepped} → r ≡ a → step_result v.turn v.finger a first second contact ≡ step s neck v (forces_at forces n)
   answered q = ap (λ r. step_result v.turn v.finger r first second contact) (sym q) ∙ more.result
 
-  pub refused-next : (samples : List Float) (k : ℕ) → r ≡ Refused k
-      → resumed s neck forces v samples n ≡ block_result (record { count = n; refusal = k; turn = v.turn; finger = v.finger }) first second contact samples
+  pub refused-next : (samples : List Float) (k : ℕ) → r ≡ refused k
+      → resumed s neck forces v samples n ≡ record { count = n; refusal = k; lent = lent_with v.turn v.finger first second contact; samples = samples }
   refused-next samples k q =
       stopped-here s neck forces v samples n (pairs_next forces n more.below)
       (play-next s neck (pairs (drop (2 * (n + 1)) forces)) (drop (2 * n) samples) v (forces_at forces n) (answered q))
 
-  module _ (a : Stepped) (q : r ≡ Accepted a) where
+  module _ (a : Stepped) (q : r ≡ accepted a) where
     abbrev w : Lent
     w = lent_with a.turn a.finger first second contact
 

@@ -22,6 +22,7 @@ pub mod Booking
 pub mod BookedRun
 pub mod Block
 pub mod Reading
+pub mod Lending
 pub mod Answers
 pub mod Table
 pub mod Bench

@@ -1,12 +1,12 @@
 -- Worked calls of every operation on the setup, neck and state of `Worked`: laying, fresh start, block and reading, accepted and refused, and what
 -- the answers come to. The numbers are from an implementation in exact fractions that was written from 01.
-use Rattle.std.specs.Prelude.{◌≡◌, refl, Bool, true, false, ℕ, ℤ, pos, negsuc, neg_ℤ, Float, replicate}
+use Rattle.std.specs.Prelude.{◌≡◌, refl, Bool, true, false, ℕ, ℤ, pos, negsuc, neg_ℤ, Float, replicate, Ok, Err, Some}
 use mathlib.Core.List.{List, [], ◌∷◌, zip_with}
 use Rattle.std.specs.Float.{nan, fin}
 use Rattle.std.specs.Float.Ieee.{round}
 use Rattle.integers.specs.Sum.{sum}
 use Rattle.model.specs.Ranges.{between, inside, displacement_ok, contact_ok, force_ok, height_ok}
-use Rattle.model.specs.Refusal.{accepted, refused, first_of}
+use Rattle.model.specs.Refusal.{accepted, refused, first_of, answer_of}
 use Rattle.model.specs.Setup.{setup_rules, place_ok, length_ok}
 use Rattle.model.specs.Differences.{plus, minus, times, D1, dot, E}
 use Rattle.model.specs.Gradient.{gradient, root, greatest}
@@ -20,13 +20,11 @@ use Rattle.model.specs.Energy.{stored_energy, limits}
 use Rattle.model.specs.Fraction.{fraction}
 use Rattle.model.specs.Block.{block, block_rules, play}
 use Rattle.model.specs.Reading.{reading, reading_rules}
-use Rattle.model.specs.Answers.{setup_result, neck_result, start_result, step_result, block_result, reading_result}
+use Rattle.model.specs.Answers.{neck_result, start_result, step_result, block_result, reading_result}
 use Rattle.model.specs.Bench.{finger, resting_finger, one_point, forces}
-use Rattle.model.specs.declared.Reading.TheVariants.{Free, Pressed, Refused}
-use Rattle.model.specs.declared.SetupAnswer.TheVariants as SetupAnswer
-use Rattle.model.specs.declared.NeckAnswer.TheVariants as NeckAnswer
-use Rattle.model.specs.declared.StartAnswer.TheVariants as StartAnswer
-use Rattle.model.specs.declared.StepAnswer.TheVariants as StepAnswer
+use Rattle.model.specs.declared.Setup.{Setup}
+use Rattle.model.specs.declared.Reading.TheVariants.{Free, Pressed}
+use Rattle.model.specs.declared.refusal.Refusal.TheVariants as Refusal
 use Rattle.model.specs.Worked.{worked_setup, worked_neck, before, state_after, flat}
 
 -- floats ±m / 1,048,576, m odd, and 32 / 1,048,576
@@ -108,13 +106,13 @@ not-played-are = refl
 
 -- place 1 is pressed to the depth −5 + 37, place 2 is free, and so is a string that just touches
 readings-are : reading worked_setup worked_neck.heights lent.first lent.second 7 1 ∷ reading worked_setup worked_neck.heights lent.first lent.second 7 2 ∷ reading worked_setup (replicate 4 (neg_ℤ (pos 37))) lent.first lent.second 7 1 ∷ []
-    ≡ Pressed (over true 37) (fin false 1 (negsuc 14)) ∷ Free (fin false 11 (negsuc 18)) ∷ Free (over true 37) ∷ []
+    ≡ accepted (Pressed (over true 37) (fin false 1 (negsuc 14))) ∷ accepted (Free (fin false 11 (negsuc 18))) ∷ accepted (Free (over true 37)) ∷ []
 unfolding lent over reading reading_rules setup_rules place_ok length_ok between inside height_ok displacement_ok fraction round
 readings-are = refl
 
 -- refused: a place past the string; a height and a newest displacement out of range elsewhere than at the place read
 not-read-are : reading worked_setup worked_neck.heights lent.first lent.second 7 5 ∷ reading worked_setup (neg_ℤ (pos 5) ∷ pos 0 ∷ pos 0 ∷ pos 1 ∷ []) lent.first lent.second 7 1
-    ∷ reading worked_setup worked_neck.heights lent.first (pos 0 ∷ pos 0 ∷ pos 0 ∷ pos 1048577 ∷ []) 7 1 ∷ [] ≡ Refused 4 ∷ Refused 7 ∷ Refused 11 ∷ []
+    ∷ reading worked_setup worked_neck.heights lent.first (pos 0 ∷ pos 0 ∷ pos 0 ∷ pos 1048577 ∷ []) 7 1 ∷ [] ≡ refused 4 ∷ refused 7 ∷ refused 11 ∷ []
 unfolding lent reading reading_rules setup_rules place_ok length_ok between inside height_ok displacement_ok
 not-read-are = refl
 
@@ -137,13 +135,13 @@ last-points-are = refl
 -- ---- what the answers come to
 
 answers-are :
-    (setup_result (SetupAnswer.Accepted worked_setup) ≡ accepted worked_setup) × (setup_result (SetupAnswer.Refused 3) ≡ refused 3)
-    × ((neck_result NeckAnswer.Accepted [] []).answer ≡ accepted tt) × (neck_result (NeckAnswer.Refused 9) (pos 1 ∷ []) (2 ∷ []) ≡ record { answer = refused 9; heights = pos 1 ∷ []; stiffness = 2 ∷ [] })
-    × (start_result (StartAnswer.Refused 10) (pos 1 ∷ []) (pos 2 ∷ []) (pos 3 ∷ []) ≡ record { answer = refused 10; first = pos 1 ∷ []; second = pos 2 ∷ []; contact = pos 3 ∷ [] })
+    (answer_of (Ok worked_setup) ≡ accepted worked_setup) × (answer_of {A = Setup} (Err Refusal.CoefficientSum) ≡ refused 3)
+    × ((neck_result (Ok tt) [] []).answer ≡ accepted tt) × (neck_result (Err Refusal.Tip) (pos 1 ∷ []) (2 ∷ []) ≡ record { answer = refused 9; heights = pos 1 ∷ []; stiffness = 2 ∷ [] })
+    × (start_result (Err Refusal.StartHeight) (pos 1 ∷ []) (pos 2 ∷ []) (pos 3 ∷ []) ≡ record { answer = refused 10; first = pos 1 ∷ []; second = pos 2 ∷ []; contact = pos 3 ∷ [] })
     -- after a refused step turn and finger are those passed in, after an accepted one those of the answer
-    × (step_result 7 resting_finger (StepAnswer.Refused 14) (pos 1 ∷ []) (pos 2 ∷ []) (pos 3 ∷ []) ≡ record { answer = refused 14; lent = one_point (pos 1) (pos 2) (pos 3) 7 resting_finger })
-    × (step_result 7 resting_finger (StepAnswer.Accepted record { turn = 0; finger = finger (pos 4) (pos 5) (pos 6); frame = record { bridge = nan; neck = nan } }) (pos 1 ∷ []) (pos 2 ∷ []) (pos 3 ∷ [])
+    × (step_result 7 resting_finger (refused 14) (pos 1 ∷ []) (pos 2 ∷ []) (pos 3 ∷ []) ≡ record { answer = refused 14; lent = one_point (pos 1) (pos 2) (pos 3) 7 resting_finger })
+    × (step_result 7 resting_finger (accepted record { turn = 0; finger = finger (pos 4) (pos 5) (pos 6); frame = record { bridge = nan; neck = nan } }) (pos 1 ∷ []) (pos 2 ∷ []) (pos 3 ∷ [])
     ≡ record { answer = accepted record { bridge = nan; neck = nan }; lent = one_point (pos 1) (pos 2) (pos 3) 0 (finger (pos 4) (pos 5) (pos 6)) })
-    × (block_result record { count = 5; refusal = 13; turn = 1; finger = resting_finger } (pos 1 ∷ []) (pos 2 ∷ []) (pos 3 ∷ []) (nan ∷ []) ≡ record { count = 5; refusal = 13; lent = one_point (pos 1) (pos 2) (pos 3) 1 resting_finger; samples = nan ∷ [] })
-    × (reading_result (Free nan) ≡ accepted (nan ∷ [])) × (reading_result (Pressed nan (over false 1)) ≡ accepted (nan ∷ over false 1 ∷ [])) × (reading_result (Refused 7) ≡ refused 7)
+    × (block_result record { count = 5; stopped = Some Refusal.NewDisplacement } (one_point (pos 1) (pos 2) (pos 3) 1 resting_finger) (nan ∷ []) ≡ record { count = 5; refusal = 13; lent = one_point (pos 1) (pos 2) (pos 3) 1 resting_finger; samples = nan ∷ [] })
+    × (reading_result (accepted (Free nan)) ≡ accepted (nan ∷ [])) × (reading_result (accepted (Pressed nan (over false 1))) ≡ accepted (nan ∷ over false 1 ∷ [])) × (reading_result (answer_of (Err Refusal.Height)) ≡ refused 7)
 answers-are = (refl, refl, refl, refl, refl, refl, refl, refl, refl, refl, refl)

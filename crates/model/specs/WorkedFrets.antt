@@ -1,12 +1,12 @@
 -- 02, item 7: the list that is shipped, ties, and lists that are refused, computed.
-use Rattle.std.specs.Prelude.{◌≡◌, refl, [], ◌∷◌, ℕ, replicate}
+use Rattle.std.specs.Prelude.{◌≡◌, refl, [], ◌∷◌, ℕ, replicate, Ok, Err}
 use Rattle.model.specs.Ranges.{between}
 use Rattle.model.specs.Refusal.{accepted, refused, first_of}
 use Rattle.model.specs.Gradient.{greatest}
 use Rattle.model.specs.Frets.{is_distance, distance, fret_place, fret_places, fret_rules, frets}
 use Rattle.model.specs.Answers.{frets_result}
 use Rattle.model.specs.Table.{◌gives◌, Right}
-use Rattle.model.specs.declared.FretsAnswer.TheVariants as FretsAnswer
+use Rattle.model.specs.declared.refusal.Refusal.TheVariants as Refusal
 
 -- the list for N = 90 that 02 has; its last fret is a tie, 22 1/2 segments from the bridge
 pub ninety_is : frets 90 24 (replicate 24 7)
@@ -44,5 +44,5 @@ numbers-are : Right (
 unfolding refusal_of fret_rules fret_places fret_place distance is_distance greatest between
 numbers-are = refl
 
-answers-are : (frets_result FretsAnswer.Accepted (3 ∷ []) ≡ record { answer = accepted tt; places = 3 ∷ [] }) × (frets_result (FretsAnswer.Refused 19) (7 ∷ []) ≡ record { answer = refused 19; places = 7 ∷ [] })
+answers-are : (frets_result (Ok tt) (3 ∷ []) ≡ record { answer = accepted tt; places = 3 ∷ [] }) × (frets_result (Err Refusal.FretPlace) (7 ∷ []) ≡ record { answer = refused 19; places = 7 ∷ [] })
 answers-are = (refl, refl)

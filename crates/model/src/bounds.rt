@@ -16,25 +16,42 @@ pub const LARGEST_MASS: u32 = 1048576;
 // 'Setup': the mass of a string point.
 pub const POINT_MASS: i64 = 4096;
 
-// 'Setup': displacements and finger heights.
-pub const LEAST_DISPLACEMENT: i32 = -1048576;
+// From the least to the largest number of 32 bits.
+#[derive(Clone, Copy)]
+pub struct Range {
+    pub least: i32,
+    pub largest: i32,
+}
 
-pub const LARGEST_DISPLACEMENT: i32 = 1048576;
+// 'Setup': displacements and finger heights.
+pub const DISPLACEMENT: Range = Range {
+    least: -1048576,
+    largest: 1048576,
+};
 
 // 'Setup': contact variables.
-pub const LEAST_CONTACT: i32 = -67108864;
-
-pub const LARGEST_CONTACT: i32 = 67108864;
+pub const CONTACT: Range = Range {
+    least: -67108864,
+    largest: 67108864,
+};
 
 // 'Setup': forces.
-pub const LEAST_FORCE: i32 = -1073741824;
-
-pub const LARGEST_FORCE: i32 = 1073741824;
+pub const FORCE: Range = Range {
+    least: -1073741824,
+    largest: 1073741824,
+};
 
 // 'Laying the neck': heights of the board, of the neck and of a fret's tip.
-pub const LEAST_HEIGHT: i32 = -1048576;
+pub const HEIGHT: Range = Range {
+    least: -1048576,
+    largest: 0,
+};
 
-pub const LARGEST_HEIGHT: i32 = 0;
+// 'One step': a fresh start's finger height.
+pub const START_HEIGHT: Range = Range {
+    least: 0,
+    largest: 1048576,
+};
 
 // 'Laying the neck': frets.
 pub const MOST_FRETS: usize = 24;
@@ -43,9 +60,6 @@ pub const MOST_FRETS: usize = 24;
 pub const DEPTH_UNIT: u64 = 1024;
 
 pub const LAST_NUMBER: u64 = 1023;
-
-// 'One step': a fresh start's finger height.
-pub const LEAST_START_HEIGHT: i32 = 0;
 
 // The points of the longest string, and its places, with both ends.
 pub const MOST_POINTS: usize = 127;

@@ -1,8 +1,12 @@
-// The types of the string voice: a setup, a finger, a pickup frame, and what each operation answers.
-// What they mean is in specs/, a file for each section of document 01. `bounds` has 01's ranges and sizes.
+// The types of the string voice: a setup, what is lent, a pickup frame, a book, and what each operation answers.
+// What they mean is in specs/, a file for each section of document 01. `bounds` has 01's ranges and sizes, `refusal` why a call is turned down; `operators` add and subtract numbers of two words.
 #![tactic(auto)]
 
 pub mod bounds;
+mod operators;
+pub mod refusal;
+
+use refusal::Refusal;
 
 // 01, 'Setup': what the finger brings to it, under 01's letters p, K and m.
 #[derive(Clone, Copy)]
@@ -28,11 +32,54 @@ pub struct Setup {
 
 // 01, 'One step': the finger's newer height w, its older height w' and its contact variable φ.
 #[repr(C)]
-#[derive(Clone, Copy)]
+#[derive(Clone, Copy, Default)]
 pub struct Finger {
     pub newer: i32,
     pub older: i32,
     pub contact: i32,
+}
+
+// 01, 'Laying the neck': what a neck is laid from.
+#[derive(Clone, Copy)]
+pub struct Plan<'a> {
+    pub board: &'a [i32], // the height of each point
+    pub board_stiffness: u16,
+    pub frets: &'a [u32], // their places
+    pub tip: i32, // the height of a fret
+    pub fret_stiffness: u16,
+}
+
+// 01, 'Laying the neck': a laid neck, the height and the stiffness of each point.
+#[derive(Clone, Copy)]
+pub struct Neck<'a> {
+    pub heights: &'a [i32],
+    pub stiffness: &'a [u16],
+}
+
+// 01, 'One step': what is lent to a step: two string buffers and the contact variables, with the turn number and the finger, which a step changes too.
+#[derive(Drop)]
+pub struct Lent<'a> {
+    pub first: &'a mut [i32],
+    pub second: &'a mut [i32],
+    pub contact: &'a mut [i32],
+    pub turn: u32,
+    pub finger: Finger,
+}
+
+// 01, 'One step': newer string u, older string v, contact variables ψ, and the finger.
+#[derive(Clone, Copy)]
+pub struct State<'a> {
+    pub newer: &'a [i32],
+    pub older: &'a [i32],
+    pub contact: &'a [i32],
+    pub finger: Finger,
+}
+
+// 01, 'One step': pluck force and finger force of one step.
+#[derive(Clone, Copy)]
+pub struct Forces {
+    pub pluck: i32,
+    pub finger: i32,
 }
 
 // 01, 'Playing a block': a pickup frame, the two new displacements divided by 1,048,576.
@@ -43,9 +90,9 @@ pub struct Frame {
     pub neck: f32,
 }
 
-// 02, item 6: a signed number of 128 bits in two words of 64, two's complement, the high word first.
+// 02, item 6: a signed number of 128 bits in two words of 64, two's complement, the high word first: the order of the words is that of the numbers.
 #[repr(C)]
-#[derive(Clone, Copy)]
+#[derive(Clone, Copy, Default, PartialEq, Eq, PartialOrd, Ord)]
 pub struct Wide {
     pub high: i64,
     pub low: u64,
@@ -53,7 +100,7 @@ pub struct Wide {
 
 // 02, item 6: the energy book, kept beside the voice. Its columns are wide numbers; `count` is that of the accepted steps.
 #[repr(C)]
-#[derive(Clone, Copy)]
+#[derive(Clone, Copy, Default)]
 pub struct Book {
     pub stored: Wide,
     pub work: Wide,
@@ -62,25 +109,7 @@ pub struct Book {
     pub count: u32,
 }
 
-// What each operation answers: what it made, or the number of its refusal.
-
-#[derive(Clone, Copy)]
-pub enum SetupAnswer {
-    Accepted(Setup),
-    Refused(u32),
-}
-
-#[derive(Clone, Copy)]
-pub enum NeckAnswer {
-    Accepted,
-    Refused(u32),
-}
-
-#[derive(Clone, Copy)]
-pub enum FretsAnswer {
-    Accepted,
-    Refused(u32),
-}
+// What an operation makes, where it makes more than one thing.
 
 // A fresh start's turn, finger and book.
 #[derive(Clone, Copy)]
@@ -88,12 +117,6 @@ pub struct Started {
     pub turn: u32,
     pub finger: Finger,
     pub book: Book,
-}
-
-#[derive(Clone, Copy)]
-pub enum StartAnswer {
-    Accepted(Started),
-    Refused(u32),
 }
 
 // The turn and the finger after a step, and its frame.
@@ -104,48 +127,11 @@ pub struct Stepped {
     pub frame: Frame,
 }
 
+// The number of steps that a block made, and the refusal that stopped it, if one did.
 #[derive(Clone, Copy)]
-pub enum StepAnswer {
-    Accepted(Stepped),
-    Refused(u32),
-}
-
-// The turn and the finger after a booked step, its frame, and the book with the step in it.
-#[derive(Clone, Copy)]
-pub struct Booked {
-    pub turn: u32,
-    pub finger: Finger,
-    pub frame: Frame,
-    pub book: Book,
-}
-
-#[derive(Clone, Copy)]
-pub enum BookedAnswer {
-    Accepted(Booked),
-    Refused(u32),
-}
-
-// The setup after a booked bend, and the book with the bend in it.
-#[derive(Clone, Copy)]
-pub struct Bent {
-    pub setup: Setup,
-    pub book: Book,
-}
-
-#[derive(Clone, Copy)]
-pub enum BentAnswer {
-    Accepted(Bent),
-    Refused(u32),
-}
-
-// The number of steps that a block made, the refusal that stopped it (0 if none did), and the turn and finger after it.
-#[repr(C)]
-#[derive(Clone, Copy)]
-pub struct BlockAnswer {
+pub struct Played {
     pub count: usize,
-    pub refusal: u32,
-    pub turn: u32,
-    pub finger: Finger,
+    pub stopped: Option<Refusal>,
 }
 
 // A place's newest displacement; where the string is pressed, its depth too; both divided by 1,048,576.
@@ -153,5 +139,4 @@ pub struct BlockAnswer {
 pub enum Reading {
     Free(f64),
     Pressed(f64, f64),
-    Refused(u32),
 }

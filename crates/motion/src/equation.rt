@@ -14,8 +14,8 @@ ghost use Rattle.motion.specs.Weighted.{placed, StringRanges};
 ghost use Rattle.motion.specs.MoveRanges.{point_sizes};
 
 use crate::differences::{d1, difference};
-use model::Setup;
 use model::bounds::{MOST_PLACES, POINT_MASS};
+use model::{Setup, State};
 use rounding::quotient::nearest;
 
 // A, from the point's gradient.
@@ -34,18 +34,17 @@ const TWICE_POINT_MASS: i64 = 2 * POINT_MASS;
 pub fn free_side(
     setup: Setup,
     weighted: &[i64; MOST_PLACES],
-    newer: &[i32],
-    older: &[i32],
+    state: State,
     force: i32,
     i: usize,
 ) -> i64
-    requires { StringRanges setup newer.now older.now
-        × (weighted.now ≡ placed (Weighted.weighted setup newer.now older.now))
+    requires { StringRanges setup state.newer.now state.older.now
+        × (weighted.now ≡ placed (Weighted.weighted setup state.newer.now state.older.now))
         × T (force_ok force) × (i < points setup) }
-    ensures { result ≡ right_side setup newer.now older.now (pos 0) (pos 0) force (suc i) }
+    ensures { result ≡ right_side setup state.entry.newer.now state.entry.older.now (pos 0) (pos 0) force (suc i) }
 {
     let terms = d1(weighted, i);
-    let change = difference(newer, older, i);
+    let change = difference(state.newer, state.older, i);
     TWICE_POINT_MASS * change + terms + (force as i64)
 }
 

@@ -1,5 +1,4 @@
-// 01, 'One step': the new string, from the moves of a step, and the writing of string and contact variables once they are judged. Before 13 is judged the new
-// string may be out of 01's range, but 32 bits hold it.
+// 01, 'One step': the new string, from the moves of a step. Before 13 is judged the new string may be out of 01's range, but 32 bits hold it.
 ghost use Rattle.std.specs.Prelude.{◌≡◌, ◌≤◌, length, take};
 ghost use Rattle.laws.specs.MoveSizes.{move_size};
 ghost use Rattle.laws.specs.Sizes.{Bounded};
@@ -14,19 +13,7 @@ pub fn next_string(older: &[i32], string: &mut [i32; MOST_POINTS])
     ensures { (length string.new ≡ 127)
         × (take (length older.now) string.new ≡ plus older.now (take (length older.now) string.old)) }
 {
-    for i in 0..older.len() {
-        let own = older[i];
-        let delta = string[i];
-        string[i] = own + delta;
-    }
-}
-
-// Writes numbers that have been judged over a lent buffer.
-pub fn write(numbers: &[i32; MOST_POINTS], out: &mut [i32])
-    requires { (length numbers.now ≡ 127) × (length out.old ≤ 127) }
-    ensures { out.new ≡ take (length out.old) numbers.now }
-{
-    for i in 0..out.len() {
-        out[i] = numbers[i];
+    for (i, own) in older.iter().enumerate() {
+        string[i] = own + string[i];
     }
 }

@@ -11,8 +11,8 @@ ghost use Rattle.motion.specs.MoveRanges.{PointRanges};
 use crate::equation::free_side;
 use crate::settled::settle_point;
 use contact::clearing::kept_at;
-use model::Setup;
 use model::bounds::{MOST_PLACES, MOST_POINTS};
+use model::{Setup, State};
 
 // The pluck force at a place: it acts at e alone.
 pub fn force_at(setup: Setup, pluck: i32, place: usize) -> i32
@@ -32,31 +32,27 @@ pub fn settle_points(
     heights: &[i32],
     gradients: &[u8; MOST_POINTS],
     weights: &[i64; MOST_PLACES],
-    newer: &[i32],
-    older: &[i32],
-    contact: &[i32],
+    state: State,
     pluck: i32,
     moves: &mut [i32; MOST_POINTS],
     contacts: &mut [i32; MOST_POINTS],
 )
-    requires { PointRanges setup heights.now newer.now older.now contact.now (gradients_in (points setup) gradients.now) pluck
-        × (weights.now ≡ placed (Weights.weighted setup newer.now older.now))
+    requires { PointRanges setup heights.now state.newer.now state.older.now state.contact.now (gradients_in (points setup) gradients.now) pluck
+        × (weights.now ≡ placed (Weights.weighted setup state.newer.now state.older.now))
         × (length moves.old ≡ 127) × (length contacts.old ≡ 127) }
     ensures { (length moves.new ≡ 127) × (length contacts.new ≡ 127)
-        × (take (points setup) moves.new ≡ places (points setup) (last_move setup newer.now older.now
-        (kept_contacts heights.now newer.now contact.now) (gradients_in (points setup) gradients.now) pluck))
-        × (take (points setup) contacts.new ≡ places (points setup) (last_contact setup newer.now older.now
-        (kept_contacts heights.now newer.now contact.now) (gradients_in (points setup) gradients.now) pluck)) }
+        × (take (points setup) moves.new ≡ places (points setup) (last_move setup state.entry.newer.now state.entry.older.now
+        (kept_contacts heights.now state.entry.newer.now state.entry.contact.now) (gradients_in (points setup) gradients.now) pluck))
+        × (take (points setup) contacts.new ≡ places (points setup) (last_contact setup state.entry.newer.now state.entry.older.now
+        (kept_contacts heights.now state.entry.newer.now state.entry.contact.now) (gradients_in (points setup) gradients.now) pluck)) }
 {
-    for i in 0..newer.len() {
+    for i in 0..state.newer.len() {
         let gradient = gradients[i];
-        let kept = kept_at(heights, newer, contact, i);
+        let kept = kept_at(heights, state, i);
         let force = force_at(setup, pluck, i + 1);
-        let side = free_side(setup, weights, newer, older, force, i);
+        let side = free_side(setup, weights, state, force, i);
         let point = settle_point(setup, side, gradient as i64, kept);
-        let delta = point.delta;
-        let variable = point.contact;
-        moves[i] = delta;
-        contacts[i] = variable;
+        moves[i] = point.delta;
+        contacts[i] = point.contact;
     }
 }

@@ -7,11 +7,11 @@ ghost use Rattle.promises.specs.Promises.{Passed};
 ghost use Rattle.motion.specs.Weighted;
 ghost use Rattle.motion.specs.Weighted.{placed, StringRanges};
 
-use model::Setup;
-use model::bounds::{LARGEST_DISPLACEMENT, MOST_PLACES};
+use model::bounds::{DISPLACEMENT, MOST_PLACES};
+use model::{Setup, State};
 
 // What is added to a displacement so that it is not negative, and to the sum of two.
-const RAISE: u32 = LARGEST_DISPLACEMENT as u32;
+const RAISE: u32 = DISPLACEMENT.largest as u32;
 
 const RAISE_OF_TWO: u32 = 2 * RAISE;
 
@@ -42,20 +42,20 @@ fn weigh(setup: Setup, left: i32, own: i32, right: i32, older: i32) -> i64
 }
 
 // The weighted string, by place.
-pub fn weighted(setup: Setup, newer: &[i32], older: &[i32]) -> [i64; MOST_PLACES]
-    requires { StringRanges setup newer.now older.now }
-    ensures { result ≡ placed (Weighted.weighted setup newer.now older.now) }
+pub fn weighted(setup: Setup, state: State) -> [i64; MOST_PLACES]
+    requires { StringRanges setup state.newer.now state.older.now }
+    ensures { result ≡ placed (Weighted.weighted setup state.entry.newer.now state.entry.older.now) }
 {
+    let newer = state.newer;
+    let older = state.older;
     let last = newer.len() - 1;
     let mut out = [0i64; MOST_PLACES];
     let mut left = 0i32;
-    let mut i = 0usize;
-    while i < last {
+    for i in 0..last {
         let own = newer[i];
         out[i + 1] = weigh(setup, left, own, newer[i + 1], older[i]);
         left = own;
-        i += 1;
     }
-    out[i + 1] = weigh(setup, left, newer[i], 0, older[i]);
+    out[last + 1] = weigh(setup, left, newer[last], 0, older[last]);
     out
 }

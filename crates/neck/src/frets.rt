@@ -22,9 +22,8 @@ pub fn tip_wrong(board: &[i32], frets: &[u32], tip: i32) -> bool
     ensures { result ≡ tip_wrong board.now frets.now tip }
 {
     let mut wrong = false;
-    for i in 0..frets.len() {
-        let place = frets[i] as usize;
-        wrong |= (0 < tip) | (tip < board[place - 1]);
+    for fret in frets {
+        wrong |= (0 < tip) | (tip < board[*fret as usize - 1]);
     }
     wrong
 }

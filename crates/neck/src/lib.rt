@@ -7,59 +7,50 @@ pub mod laying;
 
 ghost use Rattle.std.specs.Prelude.{◌≡◌};
 ghost use Rattle.model.specs.Answers.{neck_result};
-ghost use Rattle.model.specs.Neck.{lay};
+ghost use Rattle.model.specs.Lending.{the_plan};
+ghost use Rattle.model.specs.Neck.{lay, neck_rules};
+ghost use Rattle.model.specs.Refusal.{first_of, refusal_of};
 
 use crate::frets::{frets_wrong, tip_wrong};
 use crate::laying::write_neck;
-use model::{NeckAnswer, Setup};
-use ranges::lengths::three_lengths_ok;
-use ranges::numbers::heights_ok;
-use setup::setup_refusal;
+use model::refusal::Refusal;
+use model::{Plan, Setup};
+use ranges::lengths::lengths_ok;
+use ranges::numbers::{Height, all_hold};
+use setup::examine_setup;
 
-// Lays the neck into the two lent buffers, heights and stiffness, or answers the number and leaves them.
+// Lays the neck into the two lent buffers, heights and stiffness, or turns the call down and leaves them.
+#[tactic(auto, unfolding(model::specs::Neck::lay))]
 pub fn lay_neck(
     setup: Setup,
-    board: &[i32],
-    board_stiffness: u16,
-    frets: &[u32],
-    tip: i32,
-    fret_stiffness: u16,
+    plan: Plan,
     heights: &mut [i32],
     stiffness: &mut [u16],
-) -> NeckAnswer
-    ensures { neck_result result heights.new stiffness.new ≡ lay setup (record {
-      board = board.now;
-      board_stiffness = board_stiffness;
-      frets = frets.now;
-      tip = tip;
-      fret_stiffness = fret_stiffness;
-    }) heights.old stiffness.old }
+) -> Result<(), Refusal>
+    ensures { neck_result result heights.new stiffness.new ≡ lay setup (the_plan plan.entry) heights.old stiffness.old }
 {
-    let refusal = setup_refusal(setup);
-    if refusal != 0 {
-        return NeckAnswer::Refused(refusal);
+    examine(setup, plan, heights, stiffness)?;
+    write_neck(setup, plan, heights, stiffness);
+    Ok(())
+}
+
+// Its refusal, if it has one.
+#[tactic(auto, using(crate::proofs::Table::rows), unfolding(model::specs::Neck::neck_rules))]
+fn examine(setup: Setup, plan: Plan, heights: &[i32], stiffness: &[u16]) -> Result<(), Refusal>
+    ensures { refusal_of result ≡ first_of (neck_rules setup (the_plan plan.entry) heights.now stiffness.now) }
+{
+    examine_setup(setup)?;
+    if !lengths_ok(setup, &[plan.board.len(), heights.len(), stiffness.len()]) {
+        return Err(Refusal::BufferLength);
     }
-    if !three_lengths_ok(setup, board.len(), heights.len(), stiffness.len()) {
-        return NeckAnswer::Refused(6);
+    if !all_hold::<Height>(plan.board) {
+        return Err(Refusal::Height);
     }
-    if !heights_ok(board) {
-        return NeckAnswer::Refused(7);
+    if frets_wrong(setup, plan.frets) {
+        return Err(Refusal::Frets);
     }
-    if frets_wrong(setup, frets) {
-        return NeckAnswer::Refused(8);
+    if tip_wrong(plan.board, plan.frets, plan.tip) {
+        return Err(Refusal::Tip);
     }
-    if tip_wrong(board, frets, tip) {
-        return NeckAnswer::Refused(9);
-    }
-    write_neck(
-        setup,
-        board,
-        board_stiffness,
-        frets,
-        tip,
-        fret_stiffness,
-        heights,
-        stiffness,
-    );
-    NeckAnswer::Accepted
+    Ok(())
 }

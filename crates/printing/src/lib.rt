@@ -1,93 +1,93 @@
-// Text, numbers and lists of numbers on standard output.
+// What the test programs print: numbers, the bits of floats, lists, a finger and a book.
 #![tactic(auto)]
 
 ghost use Rattle.std.specs.Prelude.{◌≡◌, nat_abs};
 
-pub fn text(bytes: &[u8]) {
-    io::write_all(1, bytes);
-}
-
-pub fn unsigned(n: u64) {
-    io::print_decimal(1, n);
-}
+use model::{Book, Finger, Wide};
+use std::fmt::{Display, Formatter};
+use std::{fmt, io};
 
 // The size of a number, without its sign.
-pub fn magnitude(x: i32) -> u64
+pub fn magnitude(x: i32) -> u32
     ensures { result ≡ nat_abs x }
 {
-    let wide = x as i64;
-    if wide < 0 {
-        (0 - wide) as u64
-    } else {
-        wide as u64
-    }
-}
-
-pub fn signed(x: i32) {
-    if x < 0 {
-        text(b"-");
-    }
-    unsigned(magnitude(x));
+    x.unsigned_abs()
 }
 
 // The bits of a float; all ones for a NaN, whose bits are not told.
 pub fn single_bits(x: f32) -> u32 {
-    if x == x { f32::to_bits(x) } else { 4294967295 }
+    if x.is_nan() { u32::MAX } else { x.to_bits() }
 }
 
 pub fn double_bits(x: f64) -> u64 {
-    if x == x {
-        f64::to_bits(x)
-    } else {
-        18446744073709551615
+    if x.is_nan() { u64::MAX } else { x.to_bits() }
+}
+
+// A float by its bits in hexadecimal, the highest digit first.
+#[derive(Drop)]
+pub struct Bits<F>(pub F);
+
+impl Display for Bits<f32> {
+    fn fmt<W: fmt::Write>(&self, f: &mut Formatter<W>) -> fmt::Result {
+        write!(f, "{:08x}", single_bits(self.0))
     }
 }
 
-// The same in hexadecimal, the highest digit first.
-pub fn single(x: f32) {
-    io::print_hex(1, single_bits(x) as u64, 8);
-}
-
-pub fn double(x: f64) {
-    io::print_hex(1, double_bits(x), 16);
-}
-
-fn space() {
-    text(b" ");
-}
-
-// The lower 32 bits of a number in two's complement.
-pub fn lower_half(x: i64) -> u32 {
-    (x & 4294967295) as u32
-}
-
-// A number of 128 bits by its words, in hexadecimal, each behind a space, the high one first.
-pub fn words(high: i64, low: u64) {
-    space();
-    io::print_hex(1, lower_half(high >> 32) as u64, 8);
-    io::print_hex(1, lower_half(high) as u64, 8);
-    space();
-    io::print_hex(1, low, 16);
+impl Display for Bits<f64> {
+    fn fmt<W: fmt::Write>(&self, f: &mut Formatter<W>) -> fmt::Result {
+        write!(f, "{:016x}", double_bits(self.0))
+    }
 }
 
 // A list: each element behind a space.
-pub fn signed_list(numbers: &[i32]) {
-    for i in 0..numbers.len() {
-        space();
-        signed(numbers[i]);
+#[derive(Drop)]
+pub struct Listed<'a, T>(pub &'a [T]);
+
+impl<T: Display> Display for Listed<'_, T> {
+    fn fmt<W: fmt::Write>(&self, f: &mut Formatter<W>) -> fmt::Result {
+        for element in self.0 {
+            write!(f, " {element}")?;
+        }
+        Ok(())
     }
 }
 
-pub fn unsigned_list(numbers: &[u16]) {
-    for i in 0..numbers.len() {
-        space();
-        unsigned(numbers[i] as u64);
+// Samples by their bits, each behind a space.
+pub fn samples(rt: &impl Print, samples: &[f32]) -> io::Result<()> {
+    for sample in samples {
+        print!(rt; " {}", Bits(*sample))?;
+    }
+    Ok(())
+}
+
+// A number of 128 bits by its words, in hexadecimal, each behind a space, the high one first.
+#[derive(Drop)]
+struct Words(Wide);
+
+impl Display for Words {
+    fn fmt<W: fmt::Write>(&self, f: &mut Formatter<W>) -> fmt::Result {
+        let high = self.0.high.cast_unsigned();
+        let low = self.0.low;
+        write!(f, " {high:016x} {low:016x}")
     }
 }
 
-pub fn single_list(numbers: &[f32]) {
-    for i in 0..numbers.len() {
-        space();
-        single(numbers[i]);
-    }
+// A finger: its newer height, older height and contact variable.
+pub fn finger(rt: &impl Print, finger: Finger) -> io::Result<()> {
+    print!(rt;
+        " finger {} {} {}",
+        finger.newer, finger.older, finger.contact
+    )
+}
+
+// A book: the words of its four columns, and its count.
+pub fn book(rt: &impl Print, book: Book) -> io::Result<()> {
+    print!(rt;
+        " book{}{}{}{} {}",
+        Words(book.stored),
+        Words(book.work),
+        Words(book.loss),
+        Words(book.rounding),
+        book.count
+    )
 }

@@ -1,71 +1,91 @@
-// Range tests of numbers of 32 bits, given or worked out: whether one, or every number of a lent slice, lies in its range of document 01.
-// A scan reads the whole slice and has no early exit, so that the compiler takes several numbers at once.
-ghost use Rattle.std.specs.Prelude.{◌≡◌};
+// Range tests of numbers, given or worked out: whether one, or every number of a lent slice, is of its kind: in the range that document 01 gives to numbers of that kind.
+ghost use Rattle.std.specs.Prelude.{◌≡◌, Bool, ℤ};
 ghost use Rattle.model.specs.Ranges as Ranges;
 ghost use Rattle.model.specs.Ranges.{all, inside, displacement_ok, contact_ok, force_ok, height_ok};
 
-use model::bounds::{
-    LARGEST_CONTACT, LARGEST_DISPLACEMENT, LARGEST_FORCE, LARGEST_HEIGHT, LEAST_CONTACT,
-    LEAST_DISPLACEMENT, LEAST_FORCE, LEAST_HEIGHT,
-};
+use model::bounds::{CONTACT, DISPLACEMENT, FORCE, HEIGHT, Range};
 
-// low ≤ x ≤ high
-fn inside_i32(x: i32, low: i32, high: i32) -> bool
-    ensures { result ≡ inside low x high }
-{
-    (low <= x) & (x <= high)
+// The range of a kind of number.
+pub trait Kind {
+    // A number is in it.
+    ghost ok: { ℤ → Bool };
+
+    fn holds(number: i64) -> bool
+        ensures { result ≡ ok number };
 }
 
-// Every number lies from low to high.
-pub fn all_inside_i32(numbers: &[i32], low: i32, high: i32) -> bool
-    ensures { result ≡ all (λ x. inside low x high) numbers.now }
+// Displacements and finger heights.
+pub struct Displacement;
+
+pub struct ContactVariable;
+
+pub struct Force;
+
+// Heights of the board or of the neck.
+pub struct Height;
+
+impl Kind for Displacement {
+    ghost ok = { displacement_ok };
+
+    #[inline(always)]
+    #[tactic(auto, unfolding(model::specs::Ranges::displacement_ok))]
+    fn holds(number: i64) -> bool {
+        inside(number, DISPLACEMENT)
+    }
+}
+
+impl Kind for ContactVariable {
+    ghost ok = { contact_ok };
+
+    #[inline(always)]
+    #[tactic(auto, unfolding(model::specs::Ranges::contact_ok))]
+    fn holds(number: i64) -> bool {
+        inside(number, CONTACT)
+    }
+}
+
+impl Kind for Force {
+    ghost ok = { force_ok };
+
+    #[inline(always)]
+    #[tactic(auto, unfolding(model::specs::Ranges::force_ok))]
+    fn holds(number: i64) -> bool {
+        inside(number, FORCE)
+    }
+}
+
+impl Kind for Height {
+    ghost ok = { height_ok };
+
+    #[inline(always)]
+    #[tactic(auto, unfolding(model::specs::Ranges::height_ok))]
+    fn holds(number: i64) -> bool {
+        inside(number, HEIGHT)
+    }
+}
+
+// The number lies in the range.
+#[inline(always)]
+#[tactic(auto, unfolding(model::specs::Ranges::inside))]
+pub fn inside(number: i64, range: Range) -> bool
+    ensures { result ≡ inside range.least number range.largest }
+{
+    (range.least as i64 <= number) & (number <= range.largest as i64)
+}
+
+// Every number is of the kind. The scan has no early exit, so that the compiler takes several numbers at once.
+pub fn all_hold<K: Kind>(numbers: &[i32]) -> bool
+    ensures { result ≡ all K.ok numbers.now }
 {
     let mut ok = true;
-    for i in 0..numbers.len() {
-        ok &= inside_i32(numbers[i], low, high);
+    for number in numbers {
+        ok &= K::holds(*number as i64);
     }
     ok
 }
 
-// A displacement or a finger height.
-pub fn displacement_ok(x: i32) -> bool
-    ensures { result ≡ displacement_ok x }
-{
-    inside_i32(x, LEAST_DISPLACEMENT, LARGEST_DISPLACEMENT)
-}
-
-pub fn contact_ok(x: i32) -> bool
-    ensures { result ≡ contact_ok x }
-{
-    inside_i32(x, LEAST_CONTACT, LARGEST_CONTACT)
-}
-
-pub fn force_ok(x: i32) -> bool
-    ensures { result ≡ force_ok x }
-{
-    inside_i32(x, LEAST_FORCE, LARGEST_FORCE)
-}
-
-pub fn displacements_ok(numbers: &[i32]) -> bool
-    ensures { result ≡ all displacement_ok numbers.now }
-{
-    all_inside_i32(numbers, LEAST_DISPLACEMENT, LARGEST_DISPLACEMENT)
-}
-
-pub fn contacts_ok(numbers: &[i32]) -> bool
-    ensures { result ≡ all contact_ok numbers.now }
-{
-    all_inside_i32(numbers, LEAST_CONTACT, LARGEST_CONTACT)
-}
-
-// Heights of the board or of the neck.
-pub fn heights_ok(numbers: &[i32]) -> bool
-    ensures { result ≡ all height_ok numbers.now }
-{
-    all_inside_i32(numbers, LEAST_HEIGHT, LARGEST_HEIGHT)
-}
-
 // An unsigned number: low ≤ number ≤ high.
+#[tactic(auto, unfolding(model::specs::Ranges::between))]
 pub fn between(low: u32, number: u32, high: u32) -> bool
     ensures { result ≡ Ranges.between low number high }
 {

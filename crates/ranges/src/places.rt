@@ -1,5 +1,4 @@
 // Tests of places: whether one, or each of a list, is a point of the string, and whether a list of frets increases.
-// A scan reads the whole slice and has no early exit, so that the compiler takes several numbers at once.
 ghost use Rattle.std.specs.Prelude.{◌≡◌};
 ghost use Rattle.model.specs.Ranges.{all};
 ghost use Rattle.model.specs.Setup.{place_ok};
@@ -14,12 +13,12 @@ pub fn place_ok(setup: Setup, place: u32) -> bool
     (1 <= place) & (place < setup.segments)
 }
 
-pub fn places_ok(setup: Setup, frets: &[u32]) -> bool
-    ensures { result ≡ all (place_ok setup) frets.now }
+pub fn places_ok(setup: Setup, places: &[u32]) -> bool
+    ensures { result ≡ all (place_ok setup) places.now }
 {
     let mut ok = true;
-    for i in 0..frets.len() {
-        ok &= place_ok(setup, frets[i]);
+    for place in places {
+        ok &= place_ok(setup, *place);
     }
     ok
 }
@@ -29,10 +28,8 @@ pub fn increasing(frets: &[u32]) -> bool
     ensures { result ≡ Neck.increasing frets.now }
 {
     let mut ok = true;
-    let mut i: usize = 0;
-    while i + 1 < frets.len() {
-        ok &= frets[i] < frets[i + 1];
-        i += 1;
+    for i in 1..frets.len() {
+        ok &= frets[i - 1] < frets[i];
     }
     ok
 }

@@ -6,44 +6,60 @@ pub mod newest;
 pub mod shown;
 
 ghost use Rattle.std.specs.Prelude.{◌≡◌};
-ghost use Rattle.model.specs.Reading.{reading};
+ghost use Rattle.model.specs.Reading.{reading, reading_rules};
+ghost use Rattle.model.specs.Refusal.{first_of, answer_of, refusal_of};
 
 use crate::newest::newest;
 use crate::shown::shown;
+use model::refusal::Refusal;
 use model::{Reading, Setup};
-use ranges::lengths::three_lengths_ok;
-use ranges::numbers::{displacements_ok, heights_ok};
+use ranges::lengths::lengths_ok;
+use ranges::numbers::{Displacement, Height, all_hold};
 use ranges::places::place_ok;
-use setup::setup_refusal;
+use setup::examine_setup;
 
-// Reads a place, or answers the number. Both strings are measured, and only the newest is examined.
-pub fn read_place<'a>(
+// Reads a place, or turns the call down.
+#[tactic(auto, using(crate::proofs::AtPlace::at_place))]
+pub fn read_place(
     setup: Setup,
     heights: &[i32],
-    first: &'a [i32],
-    second: &'a [i32],
+    first: &[i32],
+    second: &[i32],
     turn: u32,
     place: u32,
-) -> Reading
-    ensures { result ≡ reading setup heights.now first.now second.now turn place }
+) -> Result<Reading, Refusal>
+    ensures { answer_of result ≡ reading setup heights.now first.now second.now turn place }
 {
-    let refusal = setup_refusal(setup);
-    if refusal != 0 {
-        return Reading::Refused(refusal);
-    }
-    if !place_ok(setup, place) {
-        return Reading::Refused(4);
-    }
-    if !three_lengths_ok(setup, heights.len(), first.len(), second.len()) {
-        return Reading::Refused(6);
-    }
-    if !heights_ok(heights) {
-        return Reading::Refused(7);
-    }
+    examine(setup, heights, first, second, turn, place)?;
     let string = newest(first, second, turn);
-    if !displacements_ok(string) {
-        return Reading::Refused(11);
-    }
     let index = place as usize - 1;
-    shown(string[index], heights[index])
+    Ok(shown(string[index], heights[index]))
+}
+
+// Its refusal, if it has one. Both strings are measured, and only the newest is examined.
+#[tactic(auto, using(crate::proofs::Table::rows), unfolding(model::specs::Reading::reading_rules))]
+fn examine(
+    setup: Setup,
+    heights: &[i32],
+    first: &[i32],
+    second: &[i32],
+    turn: u32,
+    place: u32,
+) -> Result<(), Refusal>
+    ensures { refusal_of result ≡ first_of (reading_rules setup heights.now first.now second.now turn place) }
+{
+    examine_setup(setup)?;
+    if !place_ok(setup, place) {
+        return Err(Refusal::Place);
+    }
+    if !lengths_ok(setup, &[heights.len(), first.len(), second.len()]) {
+        return Err(Refusal::BufferLength);
+    }
+    if !all_hold::<Height>(heights) {
+        return Err(Refusal::Height);
+    }
+    if !all_hold::<Displacement>(newest(first, second, turn)) {
+        return Err(Refusal::State);
+    }
+    Ok(())
 }

@@ -7,6 +7,7 @@ use model::Reading;
 use samples::fractions::double;
 
 // What a displacement u over a neck of this height shows: pressed where the depth, height − u, is above 0.
+#[tactic(auto, unfolding(model::specs::Ranges::displacement_ok, model::specs::Ranges::height_ok, model::specs::Ranges::inside))]
 pub fn shown(u: i32, height: i32) -> Reading
     requires { T (displacement_ok u) × T (height_ok height) }
     ensures { result ≡ reading_of u height }

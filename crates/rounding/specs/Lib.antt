@@ -1,3 +1,3 @@
--- What the contracts cite beside the model: how arrays hold a two-by-two system. Then when two systems are the same.
+-- What the contracts cite beside the model: a two-by-two system as the code has it. Then when two systems are the same.
 pub mod Systems
 pub mod Same

@@ -1,25 +1,16 @@
--- A two-by-two system held in arrays, and the sizes that the system of a step has.
-use Rattle.std.specs.Prelude.{List, [], ◌∷◌, ℕ, ◌^◌, ℤ, pos, get_or, ◌<ℤ◌}
+-- A two-by-two system and its solution as the code has them, and the sizes that the system of a step has.
+use Rattle.std.specs.Prelude.{List, [], ◌∷◌, ℕ, ◌^◌, ℤ, pos, ◌<ℤ◌}
 use Rattle.integers.specs.Machine.{Within}
 use Rattle.model.specs.System.{System, det, rounded₁, rounded₂}
+use Rattle.rounding.specs.declared.system.System as Declared
+use Rattle.rounding.specs.declared.system.Solution.{Solution}
 
--- by rows and right side
-abbrev pub system_of : List (List ℤ) → List ℤ → System
-system_of matrix right =
-    let row = get_or matrix 0 [] in
-    let next = get_or matrix 1 [] in
-    record {
-      a₁₁ = get_or row 0 (pos 0);
-      a₁₂ = get_or row 1 (pos 0);
-      a₂₁ = get_or next 0 (pos 0);
-      a₂₂ = get_or next 1 (pos 0);
-      b₁ = get_or right 0 (pos 0);
-      b₂ = get_or right 1 (pos 0);
-    }
+abbrev pub system_of : Declared.System → System
+system_of t = record { a₁₁ = t.a11; a₁₂ = t.a12; a₂₁ = t.a21; a₂₂ = t.a22; b₁ = t.b1; b₂ = t.b2 }
 
--- both solutions, each rounded
-abbrev pub rounded : System → List ℤ
-rounded t = rounded₁ t ∷ rounded₂ t ∷ []
+-- both parts of the solution, each rounded
+abbrev pub rounded : System → Solution
+rounded t = record { x = rounded₁ t; y = rounded₂ t }
 
 -- the entries, and what 01's ranges keep them within: A + g², g², g², m + g², and the two right sides, rounded up
 abbrev pub entries : System → List ℤ

@@ -6,18 +6,20 @@ use Rattle.model.specs.Refusal.{Answer, accepted, refused}
 use Rattle.model.specs.Step.{StepResult, frame_of}
 use Rattle.model.specs.Book.{Columns, columns}
 use Rattle.model.specs.Start.{FreshStart}
+use Rattle.model.specs.Block.{BlockResult}
 use Rattle.model.specs.Booking.{BookedResult, BentResult}
 use Rattle.model.specs.declared.Setup.{Setup}
 use Rattle.model.specs.declared.Finger.{Finger}
 use Rattle.model.specs.declared.Frame.{Frame}
 use Rattle.model.specs.declared.Reading.{Reading}
-use Rattle.model.specs.declared.Reading.TheVariants.{Free, Pressed, Refused}
+use Rattle.model.specs.declared.Reading.TheVariants.{Free, Pressed}
 use Rattle.rows.specs.declared.setup_row.SetupRow.{SetupRow}
 use Rattle.rows.specs.declared.changed_row.ChangedRow.{ChangedRow}
 use Rattle.rows.specs.declared.start_row.StartRow.{StartRow}
 use Rattle.rows.specs.declared.step_row.StepRow.{StepRow}
 use Rattle.rows.specs.declared.booked_row.BookedRow.{BookedRow}
 use Rattle.rows.specs.declared.bent_row.BentRow.{BentRow}
+use Rattle.rows.specs.declared.block_row.BlockRow.{BlockRow}
 use Rattle.rows.specs.declared.reading_row.ReadingRow.{ReadingRow}
 
 abbrev pub setup_of : SetupRow → Setup
@@ -119,7 +121,11 @@ abbrev pub none : Float
 none = fraction binary64 (pos 0)
 
 -- pressed is 1 for a pressed place and 0 for any other; a free place has no depth
-abbrev pub reading_row : Reading → ReadingRow
-reading_row (Free u) = record { refusal = 0; pressed = 0; displacement = u; depth = none }
-reading_row (Pressed u depth) = record { refusal = 0; pressed = 1; displacement = u; depth = depth }
-reading_row (Refused n) = record { refusal = n; pressed = 0; displacement = none; depth = none }
+abbrev pub reading_row : Answer Reading → ReadingRow
+reading_row (accepted (Free u)) = record { refusal = 0; pressed = 0; displacement = u; depth = none }
+reading_row (accepted (Pressed u depth)) = record { refusal = 0; pressed = 1; displacement = u; depth = depth }
+reading_row (refused n) = record { refusal = n; pressed = 0; displacement = none; depth = none }
+
+-- count, refusal, turn and finger after a block
+abbrev pub block_row : BlockResult → BlockRow
+block_row r = record { count = r.count; refusal = r.refusal; turn = r.lent.turn; finger = r.lent.finger }

@@ -1,10 +1,13 @@
 // A booked bend's answer for C.
 ghost use Rattle.std.specs.Prelude.{◌≡◌};
-ghost use Rattle.model.specs.Answers.{bent_result};
+ghost use Rattle.model.specs.Book.{columns};
+ghost use Rattle.model.specs.Refusal.{answer_of};
 ghost use Rattle.rows.specs.Rows.{bent_view, bent_row};
 
-use crate::setup_row::{SetupRow, row_of};
-use model::{BentAnswer, Book};
+use crate::changed_row::changed_row;
+use crate::setup_row::SetupRow;
+use model::refusal::Refusal;
+use model::{Book, Setup};
 
 // The refusal, 0 where there is none, the new setup and the book; after a refusal the setup and the book that were passed in.
 #[repr(C)]
@@ -15,24 +18,14 @@ pub struct BentRow {
     pub book: Book,
 }
 
-// The row of an answer, where setup and book are those that were passed in.
-pub fn bent_row(answer: BentAnswer, setup: SetupRow, book: Book) -> BentRow
-    ensures { bent_view result ≡ bent_row setup (bent_result book answer) }
+// The row of an answer, where `passed` is the setup that was passed in, and the book is that after the call.
+pub fn bent_row(passed: SetupRow, answer: Result<Setup, Refusal>, book: Book) -> BentRow
+    ensures { bent_view result ≡ bent_row passed (record { answer = answer_of answer; book = columns book }) }
 {
-    match answer {
-        BentAnswer::Accepted(bent) => {
-            let next = bent.setup;
-            let entered = bent.book;
-            BentRow {
-                refusal: 0,
-                setup: row_of(next),
-                book: entered,
-            }
-        }
-        BentAnswer::Refused(refusal) => BentRow {
-            refusal,
-            setup,
-            book,
-        },
+    let changed = changed_row(passed, answer);
+    BentRow {
+        refusal: changed.refusal,
+        setup: changed.setup,
+        book,
     }
 }

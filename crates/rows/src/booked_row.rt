@@ -1,10 +1,13 @@
 // A booked step's answer for C.
-ghost use Rattle.std.specs.Prelude.{List, ◌≡◌, ℤ};
-ghost use Rattle.model.specs.Answers.{booked_result};
+ghost use Rattle.std.specs.Prelude.{◌≡◌};
+ghost use Rattle.model.specs.Book.{columns};
+ghost use Rattle.model.specs.Lending.{the_lent};
+ghost use Rattle.model.specs.Refusal.{answer_of};
 ghost use Rattle.rows.specs.Rows.{booked_view, booked_row};
 
-use model::{Book, BookedAnswer, Finger, Frame};
-use samples::frame::frame;
+use crate::step_row::step_row;
+use model::refusal::Refusal;
+use model::{Book, Finger, Frame, Lent};
 
 // The refusal, turn, finger, frame and book.
 #[repr(C)]
@@ -17,29 +20,16 @@ pub struct BookedRow {
     pub book: Book,
 }
 
-// The row of an answer, where turn, finger and book are those that were passed in: a refused step answers them, whatever the buffers hold.
-pub fn booked_row(answer: BookedAnswer, turn: u32, finger: Finger, book: Book) -> BookedRow
-    ensures { (first second contact : List ℤ) → booked_view result ≡ booked_row (booked_result turn finger book answer first second contact) }
+// The row of an answer, with turn, finger and book as they are after the call: after a refusal those that were passed in.
+pub fn booked_row(answer: Result<Frame, Refusal>, lent: &Lent, book: Book) -> BookedRow
+    ensures { booked_view result ≡ booked_row (record { answer = answer_of answer; lent = the_lent lent.now; book = columns book }) }
 {
-    match answer {
-        BookedAnswer::Accepted(booked) => {
-            let moved = booked.finger;
-            let made = booked.frame;
-            let next = booked.book;
-            BookedRow {
-                refusal: 0,
-                turn: booked.turn,
-                finger: moved,
-                frame: made,
-                book: next,
-            }
-        }
-        BookedAnswer::Refused(refusal) => BookedRow {
-            refusal,
-            turn,
-            finger,
-            frame: frame(0, 0),
-            book,
-        },
+    let stepped = step_row(answer, lent);
+    BookedRow {
+        refusal: stepped.refusal,
+        turn: stepped.turn,
+        finger: stepped.finger,
+        frame: stepped.frame,
+        book,
     }
 }

@@ -1,10 +1,11 @@
 // A changed setup for C: what a bend and a slide answer.
 ghost use Rattle.std.specs.Prelude.{◌≡◌};
-ghost use Rattle.model.specs.Answers.{setup_result};
+ghost use Rattle.model.specs.Refusal.{answer_of};
 ghost use Rattle.rows.specs.Rows.{changed_row};
 
-use crate::setup_row::{SetupRow, row_of};
-use model::SetupAnswer;
+use crate::setup_row::SetupRow;
+use model::Setup;
+use model::refusal::Refusal;
 
 // The refusal, 0 where there is none, and the new setup; after a refusal the setup that was passed in.
 #[repr(C)]
@@ -15,16 +16,16 @@ pub struct ChangedRow {
 }
 
 // The row of an answer, where `passed` is the setup that was passed in.
-pub fn changed_row(passed: SetupRow, answer: SetupAnswer) -> ChangedRow
-    ensures { result ≡ changed_row passed (setup_result answer) }
+pub fn changed_row(passed: SetupRow, answer: Result<Setup, Refusal>) -> ChangedRow
+    ensures { result ≡ changed_row passed (answer_of answer) }
 {
     match answer {
-        SetupAnswer::Accepted(setup) => ChangedRow {
+        Ok(setup) => ChangedRow {
             refusal: 0,
-            setup: row_of(setup),
+            setup: SetupRow::from(setup),
         },
-        SetupAnswer::Refused(refusal) => ChangedRow {
-            refusal,
+        Err(refusal) => ChangedRow {
+            refusal: refusal.number(),
             setup: passed,
         },
     }

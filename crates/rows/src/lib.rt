@@ -3,6 +3,7 @@
 #![tactic(auto)]
 
 pub mod bent_row;
+pub mod block_row;
 pub mod booked_row;
 pub mod changed_row;
 pub mod numbers;

@@ -1,8 +1,10 @@
 // A reading for C.
 ghost use Rattle.std.specs.Prelude.{◌≡◌};
+ghost use Rattle.model.specs.Refusal.{answer_of};
 ghost use Rattle.rows.specs.Rows.{reading_row};
 
 use model::Reading;
+use model::refusal::Refusal;
 use samples::fractions::double;
 
 // The refusal; 1 where the string is pressed and 0 where it is free; the displacement, and the depth where it is pressed.
@@ -16,25 +18,26 @@ pub struct ReadingRow {
 }
 
 // The row of an answer.
-pub fn reading_row(answer: Reading) -> ReadingRow
-    ensures { result ≡ reading_row answer }
+#[tactic(auto, unfolding(model::specs::Ranges::displacement_ok, model::specs::Ranges::inside))]
+pub fn reading_row(answer: Result<Reading, Refusal>) -> ReadingRow
+    ensures { result ≡ reading_row (answer_of answer) }
 {
     let none = double(0);
     match answer {
-        Reading::Free(displacement) => ReadingRow {
+        Ok(Reading::Free(displacement)) => ReadingRow {
             refusal: 0,
             pressed: 0,
             displacement,
             depth: none,
         },
-        Reading::Pressed(displacement, depth) => ReadingRow {
+        Ok(Reading::Pressed(displacement, depth)) => ReadingRow {
             refusal: 0,
             pressed: 1,
             displacement,
             depth,
         },
-        Reading::Refused(refusal) => ReadingRow {
-            refusal,
+        Err(refusal) => ReadingRow {
+            refusal: refusal.number(),
             pressed: 0,
             displacement: none,
             depth: none,

@@ -22,41 +22,45 @@ pub struct SetupRow {
 }
 
 // The setup that a row says.
-pub fn setup_of(row: SetupRow) -> Setup
-    ensures { result ≡ setup_of row }
-{
-    Setup {
-        segments: row.segments,
-        tension: row.tension,
-        stiffness: row.stiffness,
-        viscous: row.viscous,
-        plain: row.plain,
-        finger: FingerSetup {
-            place: row.finger_place,
-            stiffness: row.finger_stiffness,
-            mass: row.finger_mass,
-        },
-        pluck_place: row.pluck_place,
-        bridge_place: row.bridge_place,
-        neck_place: row.neck_place,
+impl From<SetupRow> for Setup {
+    ghost from_gives = { λ row s. s ≡ setup_of row };
+
+    fn from(row: SetupRow) -> Setup {
+        Setup {
+            segments: row.segments,
+            tension: row.tension,
+            stiffness: row.stiffness,
+            viscous: row.viscous,
+            plain: row.plain,
+            finger: FingerSetup {
+                place: row.finger_place,
+                stiffness: row.finger_stiffness,
+                mass: row.finger_mass,
+            },
+            pluck_place: row.pluck_place,
+            bridge_place: row.bridge_place,
+            neck_place: row.neck_place,
+        }
     }
 }
 
 // The row of a setup.
-pub fn row_of(setup: Setup) -> SetupRow
-    ensures { result ≡ row_of setup }
-{
-    SetupRow {
-        segments: setup.segments,
-        tension: setup.tension,
-        stiffness: setup.stiffness,
-        viscous: setup.viscous,
-        plain: setup.plain,
-        finger_stiffness: setup.finger.stiffness,
-        finger_mass: setup.finger.mass,
-        finger_place: setup.finger.place,
-        pluck_place: setup.pluck_place,
-        bridge_place: setup.bridge_place,
-        neck_place: setup.neck_place,
+impl From<Setup> for SetupRow {
+    ghost from_gives = { λ s row. row ≡ row_of s };
+
+    fn from(setup: Setup) -> SetupRow {
+        SetupRow {
+            segments: setup.segments,
+            tension: setup.tension,
+            stiffness: setup.stiffness,
+            viscous: setup.viscous,
+            plain: setup.plain,
+            finger_stiffness: setup.finger.stiffness,
+            finger_mass: setup.finger.mass,
+            finger_place: setup.finger.place,
+            pluck_place: setup.pluck_place,
+            bridge_place: setup.bridge_place,
+            neck_place: setup.neck_place,
+        }
     }
 }

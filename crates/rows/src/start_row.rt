@@ -3,8 +3,8 @@ ghost use Rattle.std.specs.Prelude.{◌≡◌};
 ghost use Rattle.model.specs.Answers.{start_answer};
 ghost use Rattle.rows.specs.Rows.{start_view, start_row};
 
-use book::entering::new_book;
-use model::{Book, Finger, StartAnswer, Wide};
+use model::refusal::Refusal;
+use model::{Book, Finger, Started};
 
 // The refusal, and turn, finger and book.
 #[repr(C)]
@@ -17,11 +17,11 @@ pub struct StartRow {
 }
 
 // The row of an answer.
-pub fn start_row(answer: StartAnswer) -> StartRow
+pub fn start_row(answer: Result<Started, Refusal>) -> StartRow
     ensures { start_view result ≡ start_row (start_answer answer) }
 {
     match answer {
-        StartAnswer::Accepted(started) => {
+        Ok(started) => {
             let finger = started.finger;
             let book = started.book;
             StartRow {
@@ -31,15 +31,11 @@ pub fn start_row(answer: StartAnswer) -> StartRow
                 book,
             }
         }
-        StartAnswer::Refused(refusal) => StartRow {
-            refusal,
+        Err(refusal) => StartRow {
+            refusal: refusal.number(),
             turn: 0,
-            finger: Finger {
-                newer: 0,
-                older: 0,
-                contact: 0,
-            },
-            book: new_book(Wide { high: 0, low: 0 }),
+            finger: Finger::default(),
+            book: Book::default(),
         },
     }
 }

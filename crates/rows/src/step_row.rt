@@ -1,9 +1,11 @@
 // A step's answer for C.
-ghost use Rattle.std.specs.Prelude.{List, ◌≡◌, ℤ};
-ghost use Rattle.model.specs.Answers.{step_result};
+ghost use Rattle.std.specs.Prelude.{◌≡◌};
+ghost use Rattle.model.specs.Lending.{the_lent};
+ghost use Rattle.model.specs.Refusal.{answer_of};
 ghost use Rattle.rows.specs.Rows.{step_row};
 
-use model::{Finger, Frame, StepAnswer};
+use model::refusal::Refusal;
+use model::{Finger, Frame, Lent};
 use samples::frame::frame;
 
 // The refusal, turn, finger and frame.
@@ -16,23 +18,22 @@ pub struct StepRow {
     pub frame: Frame,
 }
 
-// The row of an answer, where turn and finger are those that were passed in: a refused step answers them, whatever the buffers hold.
-pub fn step_row(answer: StepAnswer, turn: u32, finger: Finger) -> StepRow
-    ensures { (first second contact : List ℤ) → result ≡ step_row (step_result turn finger answer first second contact) }
+// The row of an answer, with turn and finger as they are after the call: after a refusal those that were passed in.
+#[tactic(auto, unfolding(model::specs::Ranges::displacement_ok, model::specs::Ranges::inside))]
+pub fn step_row(answer: Result<Frame, Refusal>, lent: &Lent) -> StepRow
+    ensures { result ≡ step_row (record { answer = answer_of answer; lent = the_lent lent.now }) }
 {
+    let turn = lent.turn;
+    let finger = lent.finger;
     match answer {
-        StepAnswer::Accepted(stepped) => {
-            let moved = stepped.finger;
-            let made = stepped.frame;
-            StepRow {
-                refusal: 0,
-                turn: stepped.turn,
-                finger: moved,
-                frame: made,
-            }
-        }
-        StepAnswer::Refused(refusal) => StepRow {
-            refusal,
+        Ok(made) => StepRow {
+            refusal: 0,
+            turn,
+            finger,
+            frame: made,
+        },
+        Err(refusal) => StepRow {
+            refusal: refusal.number(),
             turn,
             finger,
             frame: frame(0, 0),

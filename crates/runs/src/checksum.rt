@@ -1,61 +1,62 @@
 // A running checksum of 32 bits: a polynomial modulo the greatest prime of 32 bits.
-use printing::lower_half;
-use voice::{Book, Wide};
+use printing::{magnitude, single_bits};
+use voice::{Book, Finger, Wide};
 
-// The checksum with a word more.
-pub fn word(sum: u32, word: u32) -> u32 {
-    ((sum as u64 * 16777619 + word as u64) % 4294967291) as u32
+#[derive(Clone, Copy, Default)]
+pub struct Checksum {
+    pub sum: u32,
 }
 
-// With a number's sign and size.
-pub fn signed(sum: u32, x: i32) -> u32 {
-    let sign = if x < 0 { 1 } else { 0 };
-    word(
-        word(sum, sign),
-        (printing::magnitude(x) % 4294967296) as u32,
-    )
-}
+impl Checksum {
+    // Enters a word.
+    pub fn word(&mut self, word: u32) {
+        self.sum = ((u64::from(self.sum) * 16777619 + u64::from(word)) % 4294967291) as u32;
+    }
 
-// With the words of a column, in halves, the high one first.
-fn column(sum: u32, column: Wide) -> u32 {
-    let high = column.high;
-    let low = column.low;
-    let after = word(word(sum, lower_half(high >> 32)), lower_half(high));
-    word(
-        word(after, (low / 4294967296 % 4294967296) as u32),
-        (low % 4294967296) as u32,
-    )
-}
+    // A number's sign and size.
+    fn signed(&mut self, x: i32) {
+        self.word(u32::from(x < 0));
+        self.word(magnitude(x));
+    }
 
-// With the columns and the count of a book.
-pub fn book(sum: u32, book: Book) -> u32 {
-    let stored = book.stored;
-    let work = book.work;
-    let loss = book.loss;
-    let rounding = book.rounding;
-    let mut after = column(sum, stored);
-    after = column(after, work);
-    after = column(after, loss);
-    after = column(after, rounding);
-    word(after, book.count)
-}
+    // A finger's newer height, older height and contact variable.
+    pub fn finger(&mut self, finger: Finger) {
+        self.signed(finger.newer);
+        self.signed(finger.older);
+        self.signed(finger.contact);
+    }
 
-// With the first `count` of an array.
-pub fn points(sum: u32, numbers: [i32; 127], count: usize) -> u32 {
-    let mut after = sum;
-    for i in 0..127 {
-        if i < count {
-            after = signed(after, numbers[i]);
+    pub fn numbers(&mut self, numbers: &[i32]) {
+        for number in numbers {
+            self.signed(*number);
         }
     }
-    after
-}
 
-// With the bits of floats.
-pub fn samples(sum: u32, numbers: [f32; 128]) -> u32 {
-    let mut after = sum;
-    for i in 0..128 {
-        after = word(after, printing::single_bits(numbers[i]));
+    // The halves of a word of 64 bits, the high one first.
+    fn halves(&mut self, word: u64) {
+        self.word((word >> 32) as u32);
+        self.word((word % 4294967296) as u32);
     }
-    after
+
+    // The words of a column, the high one first.
+    fn column(&mut self, column: Wide) {
+        self.halves(column.high.cast_unsigned());
+        self.halves(column.low);
+    }
+
+    // The columns and the count of a book.
+    pub fn book(&mut self, book: Book) {
+        self.column(book.stored);
+        self.column(book.work);
+        self.column(book.loss);
+        self.column(book.rounding);
+        self.word(book.count);
+    }
+
+    // The bits of floats.
+    pub fn samples(&mut self, samples: &[f32]) {
+        for sample in samples {
+            self.word(single_bits(*sample));
+        }
+    }
 }

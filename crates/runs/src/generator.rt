@@ -1,90 +1,85 @@
-// Drawn numbers. The generator holds a number of 32 bits other than 0; reference/drawn.py has the same one.
+// Drawn numbers; reference/drawn.py has the same generator.
 ghost use Rattle.std.specs.Prelude.{◌<◌, ◌≤◌};
 
-// A number that was drawn, and what the generator holds then.
+// Holds a number of 32 bits other than 0.
 #[derive(Clone, Copy)]
-pub struct Drawn {
-    pub number: u32,
-    pub next: u32,
+pub struct Generator {
+    held: u32,
 }
 
-#[derive(Clone, Copy)]
-pub struct DrawnSigned {
-    pub number: i32,
-    pub next: u32,
-}
-
-// What it holds first, from a seed above 0: spread over the 32 bits.
-pub fn first(seed: u32) -> u32 {
-    (seed as u64 * 2654435761 % 4294967296) as u32
-}
-
-// What it holds after x.
-fn after(x: u32) -> u32 {
-    let a = x ^ (x << 13);
-    let b = a ^ (a >> 17);
-    b ^ (b << 5)
-}
-
-// A number below n.
-pub fn draw(x: u32, n: u32) -> Drawn
-    requires { 0 < n }
-    ensures { result.number < n }
-{
-    let next = after(x);
-    Drawn {
-        number: next % n,
-        next,
+impl Generator {
+    // From a seed above 0: spread over the 32 bits.
+    pub fn new(seed: u32) -> Generator {
+        Generator {
+            held: seed.wrapping_mul(2654435761),
+        }
     }
-}
 
-// A number from 0 to the limit, small ones more often, 0 in a quarter of the draws.
-pub fn some(x: u32, limit: u32) -> Drawn
-    requires { limit < 4294967295 }
-    ensures { result.number ≤ limit }
-{
-    let quarter = draw(x, 4);
-    if quarter.number == 0 {
-        return quarter;
+    // A number below n.
+    pub fn draw(&mut self, n: u32) -> u32
+        requires { 0 < n }
+        ensures { result < n }
+    {
+        let mut x = self.held;
+        x ^= x << 13;
+        x ^= x >> 17;
+        x ^= x << 5;
+        self.held = x;
+        x % n
     }
-    let high = draw(quarter.next, limit + 1);
-    let middle = draw(high.next, high.number + 1);
-    draw(middle.next, middle.number + 1)
-}
 
-// A number from 0 to the limit, in half of the draws any as often as another, in half small ones more often.
-pub fn evenly_or_some(x: u32, limit: u32) -> Drawn
-    requires { limit < 4294967295 }
-    ensures { result.number ≤ limit }
-{
-    let half = draw(x, 2);
-    if half.number == 0 {
-        draw(half.next, limit + 1)
-    } else {
-        some(half.next, limit)
+    // True in one of n draws.
+    pub fn one_in(&mut self, n: u32) -> bool
+        requires { 0 < n }
+    {
+        self.draw(n) == 0
     }
-}
 
-// −size.
-pub fn negative(size: u32) -> i32
-    requires { size < 2147483648 }
-{
-    0 - size as i32
-}
+    // A number from 0 to the limit, small ones more often, 0 in a quarter of the draws.
+    pub fn some(&mut self, limit: u32) -> u32
+        requires { limit < 4294967295 }
+        ensures { result ≤ limit }
+    {
+        if self.one_in(4) {
+            return 0;
+        }
+        let high = self.draw(limit + 1);
+        let middle = self.draw(high + 1);
+        self.draw(middle + 1)
+    }
 
-// A number of this size, above or below 0.
-fn either(x: u32, size: u32) -> DrawnSigned
-    requires { size < 2147483648 }
-{
-    let half = draw(x, 2);
-    let number = if half.number == 0 {
-        size as i32
-    } else {
-        negative(size)
-    };
-    DrawnSigned {
-        number,
-        next: half.next,
+    // A number from 0 to the limit, in half of the draws any as often as another, in half small ones more often.
+    pub fn evenly_or_some(&mut self, limit: u32) -> u32
+        requires { limit < 4294967295 }
+        ensures { result ≤ limit }
+    {
+        if self.one_in(2) {
+            self.draw(limit + 1)
+        } else {
+            self.some(limit)
+        }
+    }
+
+    // A number of this size, above or below 0.
+    fn either(&mut self, size: u32) -> i32
+        requires { size < 2147483648 }
+    {
+        let size = size as i32;
+        if self.one_in(2) { size } else { -size }
+    }
+
+    // A multiple of the unit from −limit to limit.
+    pub fn around(&mut self, limit: u32, unit: u32) -> i32
+        requires { limit < 2147483648 }
+    {
+        let size = multiple(self.draw(limit + 1), unit);
+        self.either(size)
+    }
+
+    // A force out of range.
+    pub fn beyond(&mut self) -> i32 {
+        let size = 1073741825 + self.draw(1073741823);
+        self.either(size)
     }
 }
 
@@ -96,18 +91,4 @@ pub fn multiple(number: u32, unit: u32) -> u32
         return number;
     }
     number - number % unit
-}
-
-// A multiple of the unit from −limit to limit.
-pub fn around(x: u32, limit: u32, unit: u32) -> DrawnSigned
-    requires { limit < 2147483648 }
-{
-    let size = draw(x, limit + 1);
-    either(size.next, multiple(size.number, unit))
-}
-
-// A force out of range.
-pub fn beyond(x: u32) -> DrawnSigned {
-    let size = draw(x, 1073741823);
-    either(size.next, 1073741825 + size.number)
 }

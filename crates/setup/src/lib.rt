@@ -7,47 +7,43 @@ pub mod places;
 pub mod slide;
 
 ghost use Rattle.std.specs.Prelude.{◌≡◌};
-ghost use Rattle.model.specs.Answers.{setup_result};
-ghost use Rattle.model.specs.Refusal.{first_of};
+ghost use Rattle.model.specs.Refusal.{first_of, answer_of, refusal_of};
 ghost use Rattle.model.specs.Setup as Setups;
 ghost use Rattle.model.specs.Setup.{setup_rules};
 
 use crate::coefficients::{coefficient_wrong, sum_wrong};
 use crate::places::own_places_ok;
+use model::Setup;
 use model::bounds::{LARGEST_MASS, LEAST_MASS, LEAST_SEGMENTS, MOST_SEGMENTS};
-use model::{Setup, SetupAnswer};
+use model::refusal::Refusal;
 use ranges::numbers::between;
 
-// The refusal of a setup, 1 to 5, or 0. Every entry begins with it.
-pub fn setup_refusal(setup: Setup) -> u32
-    ensures { result ≡ first_of (setup_rules setup) }
+// Its refusal, 1 to 5, if it has one. Every entry begins with it.
+pub fn examine_setup(setup: Setup) -> Result<(), Refusal>
+    ensures { refusal_of result ≡ first_of (setup_rules setup) }
 {
     if !between(LEAST_SEGMENTS, setup.segments, MOST_SEGMENTS) {
-        return 1;
+        return Err(Refusal::Segments);
     }
     if coefficient_wrong(setup) {
-        return 2;
+        return Err(Refusal::Coefficient);
     }
     if sum_wrong(setup.tension, setup.stiffness, setup.viscous) {
-        return 3;
+        return Err(Refusal::CoefficientSum);
     }
     if !own_places_ok(setup) {
-        return 4;
+        return Err(Refusal::Place);
     }
     if !between(LEAST_MASS, setup.finger.mass, LARGEST_MASS) {
-        return 5;
+        return Err(Refusal::Mass);
     }
-    0
+    Ok(())
 }
 
-// The setup itself, or the number.
-pub fn check_setup(setup: Setup) -> SetupAnswer
-    ensures { setup_result result ≡ Setups.setup setup }
+// The setup itself, or its refusal.
+pub fn check_setup(setup: Setup) -> Result<Setup, Refusal>
+    ensures { answer_of result ≡ Setups.setup setup }
 {
-    let refusal = setup_refusal(setup);
-    if refusal == 0 {
-        SetupAnswer::Accepted(setup)
-    } else {
-        SetupAnswer::Refused(refusal)
-    }
+    examine_setup(setup)?;
+    Ok(setup)
 }

@@ -2,13 +2,12 @@
 ghost use Rattle.std.specs.Prelude.{◌≡◌};
 ghost use Rattle.model.specs.Start.{finger_ok};
 
-use model::bounds::{LARGEST_DISPLACEMENT, LEAST_START_HEIGHT};
-use ranges::numbers::displacement_ok;
+use model::bounds::START_HEIGHT;
+use ranges::numbers::{Displacement, Kind, inside};
 
 // 10: the finger's height lies from 0 to 1,048,576, its older height in the range of displacements.
 pub fn finger_ok(height: i32, older: i32) -> bool
     ensures { result ≡ finger_ok height older }
 {
-    let older_ok = displacement_ok(older);
-    ((LEAST_START_HEIGHT <= height) & (height <= LARGEST_DISPLACEMENT)) & older_ok
+    inside(height as i64, START_HEIGHT) & Displacement::holds(older as i64)
 }

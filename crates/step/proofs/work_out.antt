@@ -1,2 +1,2 @@
 -- What the proofs of a step share.
-mod Called
+pub mod Called

@@ -1,3 +1,3 @@
--- What a step is given, by its parts, and what the contract of `outcome` cites.
+-- What the contract of `outcome` cites, and forces as the machine holds them.
 pub mod Given
 pub mod Outcome

@@ -5,8 +5,8 @@ use Rattle.model.specs.Refusal.{first_of, accepted, refused, unless}
 use Rattle.model.specs.State.{State, Neck, Forces}
 use Rattle.model.specs.Step.{worked_step, next_state, result_rules, frame}
 use Rattle.model.specs.declared.Setup.{Setup}
-use Rattle.laws.specs.Advance.{Advanced, late_rules, advance}
-use Rattle.laws.specs.Refusals.{Reached}
+use Rattle.laws.specs.Advance.{Advanced, advanced_result, late_rules, advance}
+use Rattle.laws.specs.Refusals.{Reached, made_by, refused-by}
 
 -- of a step that leads to the state y, with these in the buffers of the older string and of the contact variables
 unfoldable pub outcome : ℕ → Setup → State → List ℤ → List ℤ → Advanced
@@ -14,6 +14,16 @@ outcome turn s y older contact =
     unless (first_of (result_rules y))
     (record { answer = accepted record { turn = turn; finger = y.finger; frame = frame s y }; older = y.newer; contact = y.contact })
     (λ n. record { answer = refused n; older = older; contact = contact })
+
+-- by the number that its table gave
+module _ (turn : ℕ) (s : Setup) (y : State) (older contact : List ℤ) where
+  pub outcome-refused : (n : ℕ) → first_of (result_rules y) ≡ n → (n ≡ 0 → ⊥) → advanced_result (refused n) older contact ≡ outcome turn s y older contact
+  unfolding outcome
+  outcome-refused n e h = refused-by (result_rules y) _ _ n e h
+
+  pub outcome-made : first_of (result_rules y) ≡ 0 → advanced_result (accepted record { turn = turn; finger = y.finger; frame = frame s y }) y.newer y.contact ≡ outcome turn s y older contact
+  unfolding outcome
+  outcome-made e = made_by (result_rules y) _ _ e
 
 -- with 12 passed, the outcome is all that is left of the step. The older string of the state that it leads to is not looked at
 pub by-outcome : (turn : ℕ) (s : Setup) (neck : Neck) (x : State) (F : Forces) (older : List ℤ) → Reached (late_rules s neck x F) (drop 1 (late_rules s neck x F))

@@ -8,41 +8,24 @@ pub mod turn;
 pub mod work_out;
 
 ghost use Rattle.std.specs.Prelude.{◌≡◌};
-ghost use Rattle.model.specs.Answers.{step_result};
+ghost use Rattle.model.specs.Lending.{the_neck, the_lent, SameBuffers};
+ghost use Rattle.model.specs.Refusal.{answer_of};
 ghost use Rattle.model.specs.Step as Steps;
 
 use crate::turn::step_ready;
-use examination::arguments::{buffers_refusal, state_refusal};
-use model::{Finger, Setup, StepAnswer};
+use examination::arguments::{examine_buffers, examine_state, in_order};
+use model::refusal::Refusal;
+use model::{Forces, Frame, Lent, Neck, Setup};
 
-// Steps the voice: writes the new string over the older of the two string buffers and the contact variables, and answers turn, finger and frame;
-// or answers the number and leaves every buffer. Turn 0 means that the first string is newer, any other number the second.
-pub fn step(
-    setup: Setup,
-    heights: &[i32],
-    stiffness: &[u16],
-    first: &mut [i32],
-    second: &mut [i32],
-    contact: &mut [i32],
-    turn: u32,
-    finger: Finger,
-    pluck: i32,
-    force: i32,
-) -> StepAnswer
-    ensures { step_result turn finger result first.new second.new contact.new ≡ Steps.step setup
-        (record { heights = heights.now; stiffness = stiffness.now })
-        (record { first = first.old; second = second.old; contact = contact.old; turn = turn; finger = finger })
-        (record { pluck = pluck; finger = force }) }
+// Steps the voice: writes the new string over the older of the two string buffers, and the contact variables, turn and finger, and answers the frame;
+// or answers the refusal and leaves all that is lent. Turn 0 means that the first string is newer, any other number the second.
+pub fn step(setup: Setup, neck: Neck, lent: &mut Lent, forces: Forces) -> Result<Frame, Refusal>
+    ensures same { SameBuffers lent.old lent.new }
+    ensures stepped { record { answer = answer_of result; lent = the_lent lent.new } ≡ Steps.step setup (the_neck neck.entry) (the_lent lent.old)
+        (record { pluck = forces.pluck; finger = forces.finger }) }
 {
-    let refusal = buffers_refusal(setup, heights, stiffness, first, second, contact);
-    if refusal != 0 {
-        return StepAnswer::Refused(refusal);
-    }
-    let refusal = state_refusal(heights, first, second, contact, finger);
-    if refusal != 0 {
-        return StepAnswer::Refused(refusal);
-    }
-    step_ready(
-        setup, heights, stiffness, first, second, contact, turn, finger, pluck, force,
-    )
+    let state = in_order(lent);
+    examine_buffers(setup, neck, state)?;
+    examine_state(neck.heights, state)?;
+    step_ready(setup, neck, lent, forces)
 }

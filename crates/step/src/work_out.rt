@@ -1,5 +1,6 @@
 // 01, 'One step': what a step leads to, worked out into local arrays before it is judged.
 ghost use Rattle.std.specs.Prelude.{◌≡◌, length, take};
+ghost use Rattle.model.specs.Lending.{the_neck, the_state};
 ghost use Rattle.model.specs.Setup.{points};
 ghost use Rattle.model.specs.Step.{call_rules, worked_step, next_state};
 ghost use Rattle.promises.specs.Promises.{Passed};
@@ -8,7 +9,7 @@ use contact::gradients::point_gradients;
 use finger_motion::next::NewFinger;
 use finger_motion::point::settle_finger;
 use model::bounds::MOST_POINTS;
-use model::{Finger, Setup};
+use model::{Forces, Neck, Setup, State};
 use motion::next::next_string;
 use motion::points::settle_points;
 use motion::weighted::weighted;
@@ -17,47 +18,39 @@ use motion::weighted::weighted;
 // holds the moves.
 pub fn work_out(
     setup: Setup,
-    heights: &[i32],
-    stiffness: &[u16],
-    newer: &[i32],
-    older: &[i32],
-    contact: &[i32],
-    finger: Finger,
-    pluck: i32,
-    force: i32,
+    neck: Neck,
+    state: State,
+    forces: Forces,
     string: &mut [i32; MOST_POINTS],
     contacts: &mut [i32; MOST_POINTS],
 ) -> NewFinger
-    requires { Passed (call_rules setup
-        (record { heights = heights.now; stiffness = stiffness.now })
-        (record { newer = newer.now; older = older.now; contact = contact.now; finger = finger })
-        (record { pluck = pluck; finger = force }))
+    requires { Passed (call_rules setup (the_neck neck) (the_state state) (record { pluck = forces.pluck; finger = forces.finger }))
         × (length string.old ≡ 127) × (length contacts.old ≡ 127) }
     ensures { (length string.new ≡ 127) × (length contacts.new ≡ 127) × (record {
       newer = take (points setup) string.new;
-      older = newer.now;
+      older = state.entry.newer.now;
       contact = take (points setup) contacts.new;
-      finger = record { newer = result.height; older = finger.newer; contact = result.contact };
-    } ≡ next_state (worked_step setup
-        (record { heights = heights.now; stiffness = stiffness.now })
-        (record { newer = newer.now; older = older.now; contact = contact.now; finger = finger })
-        (record { pluck = pluck; finger = force }))) }
+      finger = record { newer = result.height; older = state.entry.finger.newer; contact = result.contact };
+    } ≡ next_state (worked_step setup (the_neck neck.entry) (the_state state.entry) (record { pluck = forces.pluck; finger = forces.finger }))) }
 {
-    let mut gradients = [0u8; MOST_POINTS];
-    point_gradients(heights, stiffness, newer, &mut gradients);
-    let weights = weighted(setup, newer, older);
+    let heights = neck.heights;
+    let gradients = point_gradients(neck, state.newer);
+    let weights = weighted(setup, state);
     settle_points(
-        setup, heights, &gradients, &weights, newer, older, contact, pluck, string, contacts,
+        setup,
+        heights,
+        &gradients,
+        &weights,
+        state,
+        forces.pluck,
+        string,
+        contacts,
     );
-    let pair = settle_finger(
-        setup, heights, &gradients, &weights, newer, older, contact, finger, pluck, force,
-    );
+    let pair = settle_finger(setup, heights, &gradients, &weights, state, forces);
     let place = setup.finger.place as usize;
-    let delta = pair.delta;
-    let variable = pair.contact;
-    string[place - 1] = delta;
-    contacts[place - 1] = variable;
-    next_string(older, string);
+    string[place - 1] = pair.delta;
+    contacts[place - 1] = pair.contact;
+    next_string(state.older, string);
     NewFinger {
         height: pair.height,
         contact: pair.finger_contact,

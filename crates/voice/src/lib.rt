@@ -14,7 +14,7 @@ pub use neck::lay_neck;
 // 01, 'One step': clears strings and contact variables, and gives turn, finger and (02, item 6) a book.
 pub use start::fresh_start;
 
-// 01, 'One step': writes the new string over the older buffer and the contact variables, and gives turn, finger and frame.
+// 01, 'One step': writes the new string over the older buffer and the contact variables, and moves turn and finger; answers the frame.
 pub use step::step;
 
 // 02, item 6: a step and its booking in one, and a bend and its booking.
@@ -30,8 +30,9 @@ pub use reading::newest::newest;
 // 01, 'Playing a block, reading a place': the newest displacement at a place and, where the string is pressed, its depth.
 pub use reading::read_place;
 
-// What is passed and answered.
+// What is passed and answered, and why a call is turned down.
+pub use model::refusal::Refusal;
 pub use model::{
-    Bent, BentAnswer, BlockAnswer, Book, Booked, BookedAnswer, Finger, FingerSetup, Frame,
-    NeckAnswer, Reading, Setup, SetupAnswer, StartAnswer, Started, StepAnswer, Stepped, Wide,
+    Book, Finger, FingerSetup, Forces, Frame, Lent, Neck, Plan, Played, Reading, Setup, Started,
+    Wide,
 };

@@ -5,17 +5,10 @@ ghost use Rattle.model.specs.Wide.{value};
 
 use model::Wide;
 
-// a is at most b.
+// a is at most b: the order of the words, high before low, is that of the numbers.
+#[tactic(auto, using(std::proofs::lemmas::Int::ints, std::proofs::lemmas::Bool::Decides::nat_tests))]
 pub fn at_most(a: Wide, b: Wide) -> bool
     ensures { result ≡ le_z (value a) (value b) }
 {
-    let left = a.high;
-    let right = b.high;
-    if left < right {
-        return true;
-    }
-    if right < left {
-        return false;
-    }
-    a.low <= b.low
+    a <= b
 }

@@ -3,7 +3,6 @@ ghost use Rattle.std.specs.Prelude.{◌≡◌, ◌*◌, ◌^◌, pos, ◌*ℤ◌
 ghost use Rattle.integers.specs.Size.{◌within◌};
 ghost use Rattle.model.specs.Wide.{value};
 
-use crate::sums::{plus, widened};
 use model::Wide;
 
 // x · 2^24.
@@ -26,7 +25,7 @@ pub fn product(a: i64, b: i64) -> Wide
 {
     let upper = b >> 24;
     let lower = b - upper * 16777216;
-    plus(raised(a * upper), widened(a * lower))
+    raised(a * upper) + Wide::from(a * lower)
 }
 
 // x · m, by the halves of x.

@@ -1,79 +1,54 @@
--- `play` meets its contract: each accepted step leaves less of the block, by what it came to; a refused one ends it.
-use mathlib.Core.Path.{◌≡◌, sym, ◌∙◌, ap}
-use mathlib.Core.List.{List}
-use Prim.Native.Nat.{ℕ, ◌+◌, ◌*◌, ◌/◌, ◌≤◌, ◌<◌}
-use native.Mathlib.Omega.{arith}
-use borrow.Author.Rules.{rules}
-use lib.IntN.{ℤ}
-use lib.ListN.{length}
-use mir.Syntax.{w32}
-use mir.Val.{to_z, of_z}
-use Rattle.std.proofs.Common.{SFits}
-use Rattle.model.specs.Answers.{step_result}
-use Rattle.model.specs.Step.{step}
-use Rattle.model.specs.declared.StepAnswer.{StepAnswer}
+-- Each accepted step leaves less of the block, by what it came to; a refused one ends it.
+use Rattle.std.proofs.Common.{◌≡◌, sym, ◌∙◌, ap, arith, refl, rules}
+use Rattle.std.specs.Prelude.{List, ℕ, ◌+◌, ◌*◌, ◌/◌, ◌≤◌, ◌<◌, ℤ, Float, length}
+use Rattle.model.specs.Block.{BlockResult}
+use Rattle.model.specs.Lending.{the_neck, the_lent}
+use Rattle.model.specs.Refusal.{accepted, refused}
 use Rattle.model.specs.State.{Lent, Neck}
+use Rattle.model.specs.Step.{StepResult, step}
+use Rattle.model.specs.declared.Frame.{Frame}
 use Rattle.model.specs.declared.Setup.{Setup}
-use Rattle.laws.specs.Call.{lent_with}
-use Rattle.laws.specs.Playing.{forces_at, resumed, begun, ended, frame-length, OneMore, refused-next, ready-again, made-next}
-use Rattle.step.specs.Given.{neck_of, forces_of, forces-read}
+use Rattle.laws.specs.Accepted.{step-refused}
+use Rattle.laws.specs.Playing.{forces_at, resumed, ended, frame-length, OneMore, refused-next, ready-again, made-next}
 use Rattle.block.proofs.play.play.Goals as goal
 
-pub loop-count-init : goal.loop-count-init
-loop-count-init c =
-    let a = c.args in
-    record {
-      most = omega arith;
-      ready = c.requires.0;
-      room = c.requires.1;
-      rest = begun a.setup (neck_of a.heights.now a.stiffness.now) a.forces.now (lent_with a.turn a.finger a.first.now a.second.now a.contact.now) a.samples.now;
-    }
+-- the next step, which left w
+module _ (s : Setup) (neck : Neck) (forces : List ℤ) (v : Lent) {w : Lent} (n : ℕ) (below : n < length forces / 2) where
+  more : (f : Frame) → ◌≡◌ {A = StepResult} (record { answer = accepted f; lent = w }) (step s neck v (forces_at forces n))
+      → OneMore s neck forces v n (accepted record { turn = w.turn; finger = w.finger; frame = f }) w.first w.second w.contact
+  more f stepped = record { below = below; result = stepped }
 
-pub step_ready-answer-requires : goal.step_ready-answer-requires
-step_ready-answer-requires c = c.loop-count.invariant.ready
+  ends : (samples : List Float) (k : ℕ) → ◌≡◌ {A = StepResult} (record { answer = refused k; lent = w }) (step s neck v (forces_at forces n))
+      → ◌≡◌ {A = BlockResult} (record { count = n; refusal = k; lent = w; samples = samples }) (resumed s neck forces v samples n)
+  ends samples k stepped =
+      let kept : w ≡ v = ap (λ r. r.lent) stepped ∙ step-refused s neck v (forces_at forces n) k (sym (ap (λ r. r.answer) stepped)) in
+      let one : OneMore s neck forces v n (refused k) v.first v.second v.contact = record { below = below; result = ap (λ w. record { answer = refused k; lent = w }) (sym kept) ∙ stepped } in
+      ap (λ w. record { count = n; refusal = k; lent = w; samples = samples }) kept ∙ sym (refused-next one samples k refl)
 
--- one step more, with the forces that stand at its place
-one_more : (s : Setup) (neck : Neck) (forces : List ℤ) (v : Lent) {n : ℕ} {r : StepAnswer} {first second contact : List ℤ} {pluck force : ℤ}
-    → n < length forces / 2 → SFits w32 pluck → SFits w32 force
-    → step_result v.turn v.finger r first second contact ≡ step s neck v (forces_of (to_z w32 (of_z w32 pluck)) (to_z w32 (of_z w32 force)))
-    → forces_of pluck force ≡ forces_at forces n
-    → OneMore s neck forces v n r first second contact
-one_more s neck forces v below pluck force stepped at = record { below = below; result = stepped ∙ ap (step s neck v) (forces-read pluck force ∙ at) }
-
-pub returns-in-Refused : goal.returns-in-Refused
-returns-in-Refused c =
+pub returns-in-Err-clause-played : goal.returns-in-Err-clause-played
+returns-in-Err-clause-played c =
     let l = c.loop-count in
-    let s = c.args.setup in
-    let neck = neck_of c.args.heights.now c.args.stiffness.now in
-    let forces = c.args.forces.now in
-    let v = lent_with l.turn l.finger l.first l.second l.contact in
-    let more = one_more s neck forces v c.loop-count-test.true (search rules) (search rules) c.step_ready-answer.ensures c.forces_at-acting.ensures in
-    sym (refused-next more l.samples c.in-Refused.refusal c.in-Refused.is) ∙ l.invariant.rest
+    ends c.args.setup _ c.args.forces.now _ l.count c.loop-count-test.true l.samples _ (c.in-Err.ensures.stepped ∙ ap (step c.args.setup _ _) c.forces_at.ensures) ∙ l.invariant.playing.rest
 
 pub loop-count-preserved : goal.loop-count-preserved
 loop-count-preserved c =
     let l = c.loop-count in
-    let s = c.args.setup in
-    let neck = neck_of c.args.heights.now c.args.stiffness.now in
-    let forces = c.args.forces.now in
-    let v = lent_with l.turn l.finger l.first l.second l.contact in
-    let a = c.in-Accepted.stepped in
+    let room : 2 * l.count + 2 ≤ length l.samples = omega (arith, c.loop-count-test.true, l.invariant.playing.room) in
     let made = c.write_frame.ensures in
-    let room : 2 * l.count + 2 ≤ length l.samples = omega (arith, c.loop-count-test.true, l.invariant.room) in
-    let same : length c.write_frame.new.samples ≡ length l.samples = ap length made ∙ frame-length a.frame (2 * l.count) l.samples room in
-    let more = one_more s neck forces v c.loop-count-test.true (search rules) (search rules) c.step_ready-answer.ensures c.forces_at-acting.ensures in
+    let same : length c.write_frame.new.samples ≡ length l.samples = ap length made ∙ frame-length c.in-Ok.frame (2 * l.count) l.samples room in
+    let next = more c.args.setup _ c.args.forces.now _ l.count c.loop-count-test.true c.in-Ok.frame (c.in-Ok.ensures.stepped ∙ ap (step c.args.setup _ _) c.forces_at.ensures) in
     record {
-      most = omega (arith, c.loop-count-test.true);
-      ready = ready-again more a c.in-Accepted.is l.invariant.ready;
-      room = omega (arith, same, l.invariant.room);
-      rest = ap (λ samples. resumed s neck forces (lent_with a.turn a.finger c.step_ready-answer.new.first c.step_ready-answer.new.second c.step_ready-answer.new.contact) samples (l.count + 1)) made
-          ∙ sym (made-next more a c.in-Accepted.is l.samples room) ∙ l.invariant.rest;
+      same = search rules;
+      playing = record {
+        ready = ready-again next _ refl l.invariant.playing.ready;
+        room = omega (arith, same, l.invariant.playing.room);
+        rest = ap (λ samples. resumed c.args.setup (the_neck c.args.neck) c.args.forces.now (the_lent c.step_ready.new.lent) samples (l.count + 1)) made
+            ∙ sym (made-next next _ refl l.samples room) ∙ l.invariant.playing.rest;
+      };
     }
 
-pub returns : goal.returns
-returns c =
-    let l = c.before in
-    let v = lent_with l.loop-count.turn l.loop-count.finger l.loop-count.first l.loop-count.second l.loop-count.contact in
-    let all : l.loop-count.count ≡ length c.args.forces.now / 2 = omega (arith, c.loop-count-test.false, l.loop-count.invariant.most) in
-    ap (λ (n : ℕ). record { count = n; refusal = 0; lent = v; samples = l.loop-count.samples }) all
-    ∙ sym (ended c.args.setup (neck_of c.args.heights.now c.args.stiffness.now) c.args.forces.now v l.loop-count.samples l.loop-count.count all) ∙ l.loop-count.invariant.rest
+pub returns-clause-played : goal.returns-clause-played
+returns-clause-played c =
+    let l = c.loop-count in
+    let all : l.count ≡ length c.args.forces.now / 2 = omega (arith, c.loop-count-test.false, l.auto.count-end) in
+    sym (ended c.args.setup (the_neck c.args.neck) c.args.forces.now (the_lent l.lent) l.samples l.count all) ∙ l.invariant.playing.rest

@@ -1,122 +1,72 @@
 -- Stored energy, loss and work are worked out, and are small enough to be entered.
-use mathlib.Core.Path.{◌≡◌, ◌∙◌, ap}
-use mathlib.Core.List.{List, [], ◌∷◌}
-use Prim.Native.Nat.{◌+◌, ◌^◌}
-use lib.IntN.{ℤ, ◌+ℤ◌, ◌-ℤ◌}
-use mir.Syntax.{w32, w64}
-use mir.Val.{to_z, of_z}
-use mir.Facts.{to_z-of_z}
+use Rattle.std.proofs.Common.{◌≡◌, ◌∙◌, ap, ap₂, rules, to_z, of_z, lit<}
+use Rattle.std.specs.Prelude.{List, ℤ, pos, ◌+ℤ◌, ◌-ℤ◌, ◌*ℤ◌, ◌+◌, ◌^◌, ◌<◌, T, take, length}
+use Rattle.std.specs.Int.{w32, w64}
+use Rattle.integers.specs.Bits.{back}
 use Rattle.integers.specs.Size.{◌within◌, ◌⟨+⟩◌, ◌⟨-⟩◌, wide}
-use Rattle.integers.specs.Machine.{var, Within, ∅, ◌▹◌, result}
+use Rattle.model.specs.Differences.{at, minus}
 use Rattle.model.specs.Ranges.{displacement_ok, force_ok}
 use Rattle.model.specs.Setup.{e}
-use Rattle.model.specs.Differences.{minus}
 use Rattle.model.specs.State.{State, Forces}
-use Rattle.model.specs.Energy.{stored_energy}
-use Rattle.model.specs.declared.Setup.{Setup}
-use Rattle.laws.specs.Sizes.{inside-within}
 use Rattle.model.specs.Wide.{value}
-use Rattle.model.specs.declared.Book.{Book}
+use Rattle.model.specs.declared.Setup.{Setup}
 use Rattle.laws.specs.Accepted.{setup-facts}
-use Rattle.laws.specs.EnergySizes.{Strings, Held, change-within, height-within, energy-size, moving_loss, moving-size, work-within}
-use Rattle.book.specs.Entering.{left_over}
+use Rattle.laws.specs.EnergySizes.{Strings, Held, change-within, energy-size, moving_loss, moving-size, work-within}
+use Rattle.laws.specs.Sizes.{inside-within}
+use Rattle.book.specs.Entering.{left_over, count_room}
 use Rattle.booked_step.specs.Booking.{work_of}
 use Rattle.booked_step.proofs.booking.book_step.Goals as goal
-use Rattle.booked_step.proofs.booking.book_step.Goals.{After-step_work-work, Start}
 
-module _ (k : Start) where
-  abbrev s : Setup
-  s = k.args.setup
+-- a height, read from its bits
+height-read : {w : ℤ} → T (displacement_ok w) → to_z w32 (of_z w32 w) ≡ w
+unfolding displacement_ok
+height-read {w} h = back w32 (inside-within 1048576 w h) (lit< tt)
 
-  abbrev b : Book
-  b = k.args.book
+work_is : (s : Setup) (F : Forces) (u v : List ℤ) (w w' : ℤ) → T (displacement_ok w) → T (displacement_ok w') → {z : ℤ}
+    → z ≡ pos 2 *ℤ F.pluck *ℤ at (minus u v) (e s) +ℤ pos 2 *ℤ F.finger *ℤ (to_z w32 (of_z w32 w) -ℤ to_z w32 (of_z w32 w')) → z ≡ work_of s F u v w w'
+unfolding work_of
+work_is s F u v w w' h h' q = q ∙ ap₂ (λ w w'. pos 2 *ℤ F.pluck *ℤ at (minus u v) (e s) +ℤ pos 2 *ℤ F.finger *ℤ (w -ℤ w')) (height-read h) (height-read h')
 
-  abbrev y : State
-  y = record { newer = k.args.string.now; older = k.args.newer.now; contact = k.args.contact.now; finger = k.args.finger }
+work-size : (s : Setup) (F : Forces) {u v : List ℤ} (w w' : ℤ) → Strings u v → T (force_ok F.pluck) → T (force_ok F.finger) → T (displacement_ok w) → T (displacement_ok w') → work_of s F u v w w' within 2 ^ 53
+unfolding work_of force_ok displacement_ok
+work-size s F w w' h f g k k' =
+    work-within (inside-within 1073741824 F.pluck f) (inside-within 1073741824 F.finger g) (change-within h (e s)) (inside-within 1048576 w k ⟨-⟩ inside-within 1048576 w' k')
 
-  abbrev v : List ℤ
-  v = k.args.kept.now
-
-  abbrev F : Forces
-  F = record { pluck = k.args.pluck; finger = k.args.force }
-
-  held : Held s y
-  held = k.requires.0
-
-  across : Strings y.newer v
-  across = k.requires.1
-
-  pluck-within : F.pluck within 1073741824
-  unfolding force_ok
-  pluck-within = inside-within 1073741824 F.pluck k.requires.4
-
-  force-within : F.finger within 1073741824
-  unfolding force_ok
-  force-within = inside-within 1073741824 F.finger k.requires.5
-
-  before-within : k.args.height within 1048576
-  unfolding displacement_ok
-  before-within = inside-within 1048576 k.args.height k.requires.6
-
-  ρ : Within (F.pluck ∷ F.finger ∷ y.finger.newer ∷ k.args.height ∷ []) (1073741824 ∷ 1073741824 ∷ 1048576 ∷ 1048576 ∷ [])
-  ρ = pluck-within ▹ force-within ▹ height-within held ▹ before-within ▹ ∅
-
-  abbrev work : ℤ
-  work = work_of s F y.newer v y.finger.newer k.args.height
-
-  work-size : work within 2 ^ 53
-  unfolding work_of
-  work-size = work-within pluck-within force-within (change-within across (e s)) (height-within held ⟨-⟩ before-within)
-
-  abbrev loss : ℤ
-  loss = moving_loss s (minus y.newer v) +ℤ k.args.released
-
-  loss-size : loss within 2 ^ 64
-  loss-size = wide (moving-size (setup-facts s held.setup) across ⟨+⟩ k.requires.3) tt
-
-module _ (c : After-step_work-work) where
-  abbrev a : Start
-  a = c.before.before.before.before
-
-  after_is : value c.stored_energy-after.result ≡ stored_energy (s a) (y a)
-  after_is = c.stored_energy-after.ensures
-
-  loss_is : value c.step_loss-loss.result ≡ loss a
-  loss_is = c.step_loss-loss.ensures ∙ ap (λ z. moving_loss (s a) (minus (y a).newer (v a)) +ℤ z) (to_z-of_z a.ranges.released)
-
-  work_is : to_z w64 (of_z w64 c.step_work-work.result) ≡ work a
-  unfolding work_of
-  work_is =
-      let r = ρ a in
-      to_z-of_z {w = w64} (record { sfits = c.step_work-work.type_inv })
-      ∙ (rw (result r w32 (var 0) tt, result r w32 (var 1) tt, result r w32 (var 2) tt, result r w32 (var 3) tt) at c.step_work-work.ensures)
-
-pub step_work-work-requires : goal.step_work-work-requires
-step_work-work-requires c =
-    let k = c.before.before.before.before in
-    let r = ρ k in
-    ((held k).setup, across k, (held k).newer-length, rw (result r w32 (var 0) tt) k.requires.4, rw (result r w32 (var 1) tt) k.requires.5, rw (result r w32 (var 2) tt) (held k).range.height, rw (result r w32 (var 3) tt) k.requires.6)
+loss-size : {s : Setup} {x : State} {v : List ℤ} {z : ℤ} → Held s x → Strings x.newer v → z within 2 ^ 60 → (moving_loss s (minus x.newer v) +ℤ z) within 2 ^ 64
+loss-size h a r = wide (moving-size (setup-facts _ h.setup) a ⟨+⟩ r) tt
 
 pub with_step-requires : goal.with_step-requires
 with_step-requires c =
-    let k = a c in
-    (record { before = k.requires.2; after = rw (after_is c) (energy-size (held k)); work = rw (work_is c) (work-size k); loss = rw (loss_is c) (loss-size k) }, k.requires.7, k.requires.8)
+    let h = c.requires in
+    let low : c.args.book.count < 2 ^ 32 = let h = c.well_formed.1 in search rules in
+    let released : to_z w64 (of_z w64 c.args.before.now.released) ≡ c.args.before.now.released = back w64 h.4 (lit< tt) in
+    let work : to_z w64 (of_z w64 c.step_work.result) ≡ c.step_work.result = search rules in
+    let F : Forces = record { pluck = c.args.forces.pluck; finger = c.args.forces.finger } in (
+      record {
+        before = h.3;
+        after = rw c.stored_energy.ensures (energy-size h.0);
+        work = rw (work ∙ work_is c.args.setup F _ _ _ _ h.0.range.height h.7 c.step_work.ensures) (work-size c.args.setup F _ _ h.2 h.5 h.6 h.0.range.height h.7);
+        loss = rw c.step_loss.ensures (rw released (loss-size h.0 h.2 h.4));
+      },
+      h.8,
+      count_room c.args.book h.9 low,
+    )
 
 pub returns : goal.returns
 unfolding left_over
 returns c =
-    let d = c.before in
-    let k = a d in
+    let h = c.requires in
+    let b = c.args.book in
+    let F : Forces = record { pluck = c.args.forces.pluck; finger = c.args.forces.finger } in
+    let released : to_z w64 (of_z w64 c.args.before.now.released) ≡ c.args.before.now.released = back w64 h.4 (lit< tt) in
+    let work : to_z w64 (of_z w64 c.step_work.result) ≡ c.step_work.result = search rules in
+    let after_is = c.stored_energy.ensures in
+    let work_is = work ∙ work_is c.args.setup F _ _ _ _ h.0.range.height h.7 c.step_work.ensures in
+    let loss_is = c.step_loss.ensures ∙ ap (λ z. moving_loss c.args.setup (minus c.args.after.newer.now (take (length c.args.after.newer.now) c.args.before.now.older)) +ℤ z) released in
     c.with_step.ensures ∙ (λ i. record {
-      stored = after_is d i;
-      work = value (b k).work +ℤ work_is d i;
-      loss = value (b k).loss +ℤ loss_is d i;
-      rounding = value (b k).rounding +ℤ (after_is d i -ℤ value k.args.before -ℤ work_is d i +ℤ loss_is d i);
-      count = (b k).count + 1;
+      stored = after_is i;
+      work = value b.work +ℤ work_is i;
+      loss = value b.loss +ℤ loss_is i;
+      rounding = value b.rounding +ℤ (after_is i -ℤ value c.args.before.now.stored -ℤ work_is i +ℤ loss_is i);
+      count = b.count + 1;
     })
-
-pub stored_energy-after-requires : goal.stored_energy-after-requires
-stored_energy-after-requires c = held c
-
-pub step_loss-loss-requires : goal.step_loss-loss-requires
-step_loss-loss-requires c = let k = c.before in ((held k).setup, across k, rw (to_z-of_z k.ranges.released) k.requires.3)

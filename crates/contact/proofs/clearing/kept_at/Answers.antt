@@ -1,12 +1,12 @@
 -- `kept_at` meets its contract: each list at the point.
-use mathlib.Core.Path.{◌≡◌, refl, sym, ◌∙◌, ap, ap₂}
+use mathlib.Core.Path.{◌≡◌, refl, sym, ◌∙◌, ap}
 use mathlib.Core.List.{List}
-use Prim.Native.Nat.{suc}
-use borrow.Author.Rules.{sfits_of}
+use Prim.Native.Nat.{ℕ, suc}
+use borrow.Author.Rules.{rules}
 use lib.IntN.{ℤ, pos, ◌-ℤ◌}
-use lib.ListN.{get_or}
+use lib.ListN.{length, get_or}
 use mir.Syntax.{w32}
-use mir.Val.{to_z, of_z}
+use mir.Val.{SFits}
 use mir.Facts.{to_z-of_z}
 use Rattle.model.specs.Differences.{at}
 use Rattle.model.specs.Step.{kept}
@@ -14,37 +14,19 @@ use Rattle.laws.specs.Strings.{at-zip}
 use Rattle.contact.specs.Contacts.{kept_contacts}
 use Rattle.contact.specs.Pressed.{depths-span, depth-at}
 use Rattle.contact.proofs.clearing.kept_at.Goals as goal
-use Rattle.contact.proofs.clearing.kept_at.Goals.{After-contact_kept-arg-3-1, Start}
+use Rattle.contact.proofs.clearing.kept_at.Goals.{After-contact_kept}
 
-module _ (a : Start) where
-  abbrev heights : List ℤ
-  heights = a.args.heights.now
+kept_is : (h u ψ : List ℤ) (i : ℕ) → length h ≡ length u → length ψ ≡ length u → at (kept_contacts h u ψ) (suc i) ≡ kept (get_or h i (pos 0) -ℤ get_or u i (pos 0)) (get_or ψ i (pos 0))
+unfolding kept
+kept_is h u ψ i e k = at-zip kept refl (depths-span h u e) (record { long = k }) (suc i) ∙ ap (λ d. kept d (get_or ψ i (pos 0))) (depth-at h u e i)
 
-  abbrev newer : List ℤ
-  newer = a.args.newer.now
-
-  abbrev variable : ℤ
-  variable = get_or a.args.contact.now a.args.i (pos 0)
-
-  kept_is : at (kept_contacts heights newer a.args.contact.now) (suc a.args.i) ≡ kept (get_or heights a.args.i (pos 0) -ℤ get_or newer a.args.i (pos 0)) variable
-  unfolding kept
-  kept_is = at-zip kept refl (depths-span heights newer a.requires.0) (record { long = a.requires.1 }) (suc a.args.i) ∙ ap (λ d. kept d variable) (depth-at heights newer a.requires.0 a.args.i)
-
--- the numbers at the point, read from their bits
-module _ (d : After-contact_kept-arg-3-1) where
-  abbrev a : Start
-  a = d.before.before.before
-
-  height_is : to_z w32 (of_z w32 (get_or (heights a) a.args.i (pos 0))) ≡ get_or (heights a) a.args.i (pos 0)
-  height_is = to_z-of_z {w = w32} (sfits_of d.contact_kept-arg-1.given)
-
-  own_is : to_z w32 (of_z w32 (get_or (newer a) a.args.i (pos 0))) ≡ get_or (newer a) a.args.i (pos 0)
-  own_is = to_z-of_z {w = w32} (sfits_of d.contact_kept-arg-2-1.given)
-
-  variable_is : to_z w32 (of_z w32 (variable a)) ≡ variable a
-  variable_is = to_z-of_z {w = w32} (sfits_of d.contact_kept-arg-3-1.given)
+-- the numbers at the point fit
+numbers-fit : (c : After-contact_kept) → SFits w32 (get_or c.args.heights.now c.args.i (pos 0)) × SFits w32 (get_or c.args.state.newer.now c.args.i (pos 0)) × SFits w32 (get_or c.args.state.contact.now c.args.i (pos 0))
+numbers-fit c = search rules
 
 pub returns : goal.returns
 returns c =
-    let d = c.before in
-    to_z-of_z {w = w32} (record { sfits = c.contact_kept.type_inv }) ∙ c.contact_kept.ensures ∙ ap₂ kept (ap₂ ◌-ℤ◌ (height_is d) (own_is d)) (variable_is d) ∙ sym (kept_is (a d))
+    let fit = numbers-fit c in
+    to_z-of_z {w = w32} (record { sfits = c.contact_kept.type_inv })
+    ∙ (rw (to_z-of_z fit.0, to_z-of_z fit.1, to_z-of_z fit.2) at c.contact_kept.ensures)
+    ∙ sym (kept_is c.args.heights.now c.args.state.newer.now c.args.state.contact.now c.args.i c.requires.0 c.requires.1)

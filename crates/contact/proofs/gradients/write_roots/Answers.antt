@@ -32,29 +32,11 @@ loop-j-preserved c = let t = c.before.before.before in rewritten-more (in_array 
 pub returns : goal.returns
 returns c = let filled = c.loop-j.invariant.filled in record { len = filled.len; each = λ m h. filled.each m (let l = c.loop-j-test.false in omega arith) }
 
-pub overflow_add-end : goal.overflow_add-end
-overflow_add-end c = record { fits = let m = c.requires.0 in omega arith }
-
-pub overflow_mul-end : goal.overflow_mul-end
-overflow_mul-end c = record { fits = let m = c.requires.0 in omega arith }
-
 pub loop-j-init : goal.loop-j-init
 loop-j-init c = rewritten-none c.requires.1
-
-pub offset_bounds-numbers-j : goal.offset_bounds-numbers-j
-offset_bounds-numbers-j c = record { fits = let l = in_array c in omega arith }
 
 pub bounds-numbers-j : goal.bounds-numbers-j
 bounds-numbers-j c = in_array c.before.before
 
-pub offset_bounds-numbers-j-in-loop-j : goal.offset_bounds-numbers-j-in-loop-j
-offset_bounds-numbers-j-in-loop-j c = record { fits = let l = in_array c.before.before.before in omega arith }
-
 pub bounds-numbers-j-in-loop-j : goal.bounds-numbers-j-in-loop-j
 bounds-numbers-j-in-loop-j c = in_array c.before.before.before
-
-pub overflow_step-j : goal.overflow_step-j
-overflow_step-j c = record { fits = let l = in_array c.before.before.before in omega arith }
-
-pub loop-j-smaller : goal.loop-j-smaller
-loop-j-smaller c = omega (arith, c.loop-j-test.true)

@@ -8,7 +8,7 @@ use lib.ListN.{length, get_or, set}
 use mir.Syntax.{w32}
 use mir.Val.{SFits}
 use Rattle.integers.specs.Tests.{below_at, below_true, below_false}
-use Rattle.contact.specs.Pressed.{Listed, listed-none, listed_more, listed_same}
+use Rattle.contact.specs.Pressed.{Listed, listed_more, listed_same}
 use Rattle.contact.proofs.pressed.list_pressed.Goals as goal
 use Rattle.contact.proofs.pressed.list_pressed.Goals.{then-newer-i, else-newer-i, In-loop-i, Joined-newer-i, Start}
 
@@ -66,23 +66,11 @@ returns c =
     let e : c.loop-i.i ≡ length a.args.newer.now = let b = inv.0 in omega arith in
     subst (λ (n : ℕ). Listed a.args.heights.now a.args.newer.now n c.loop-i.list c.loop-i.count) e inv.1
 
-pub loop-i-init : goal.loop-i-init
-loop-i-init c = (omega arith, listed-none c.requires.2)
-
-pub overflow_cast-list : goal.overflow_cast-list
-overflow_cast-list c = record { fits = let l = point c in omega arith }
-
 pub bounds-list-count : goal.bounds-list-count
 bounds-list-count c = in_list c.before
 
 pub bounds-newer-i : goal.bounds-newer-i
 bounds-newer-i c = c.loop-i-test.true
-
-pub bounds-heights-i : goal.bounds-heights-i
-bounds-heights-i c = let e = c.requires.0 in omega (arith, c.loop-i-test.true)
-
-pub overflow_add-count : goal.overflow_add-count
-overflow_add-count c = record { fits = let l = in_list c.before.before.before.before in omega arith }
 
 pub loop-i-preserved : goal.loop-i-preserved
 loop-i-preserved c = (omega (arith, (turn c).loop-i-test.true), next c)

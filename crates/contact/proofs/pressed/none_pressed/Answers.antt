@@ -67,8 +67,5 @@ returns c =
 pub loop-i-init : goal.loop-i-init
 loop-i-init c = record { whole = refl }
 
-pub bounds-heights-i : goal.bounds-heights-i
-bounds-heights-i c = let e = c.requires in omega (arith, c.loop-i-test.true)
-
 pub bounds-newer-i : goal.bounds-newer-i
 bounds-newer-i c = c.loop-i-test.true

@@ -1,15 +1,13 @@
 -- Both parts fit.
-use mathlib.Core.Path.{◌≡◌, ◌∙◌, ap₂}
-use mathlib.Core.List.{[], ◌∷◌}
-use Prim.Native.Nat.{◌*◌, ◌^◌}
-use lib.IntN.{pos, ◌+ℤ◌, ◌*ℤ◌}
-use mir.Syntax.{w64}
-use Rattle.integers.specs.Size.{natural, wide}
-use Rattle.integers.specs.Machine.{Code, var, nat, ♯◌, done, ◌⊠◌, Within, ◌▹◌, fits, result, held-within, sized}
-use Rattle.model.specs.Wide.{value}
-use Rattle.laws.specs.Accepted.{SetupFacts, setup-facts}
+use Rattle.std.specs.Prelude.{[], ◌∷◌, ◌*◌, ◌^◌, ℤ, pos, ◌+ℤ◌}
+use Rattle.std.proofs.Common.{◌∙◌, ap₂, w64}
+use Rattle.integers.specs.Size.{natural}
+use Rattle.integers.specs.Machine.{Code, var, nat, ♯◌, done, ◌⊠◌, Within, ◌▹◌, fits, result}
+use Rattle.model.specs.Setup.{setup_rules}
+use Rattle.model.specs.declared.Setup.{Setup}
+use Rattle.promises.specs.Promises.{Passed}
+use Rattle.laws.specs.Accepted.{setup-facts}
 use Rattle.energy.proofs.loss.moving_loss.Goals as goal
-use Rattle.energy.proofs.loss.moving_loss.Goals.{After-struct_known-2-1, After-widened, Start}
 
 abbrev plain : Code
 plain = ♯ 2 ⊠ done (nat 0) ⊠ var 2
@@ -17,33 +15,17 @@ plain = ♯ 2 ⊠ done (nat 0) ⊠ var 2
 abbrev viscous : Code
 viscous = done (nat 1) ⊠ var 3
 
-module _ (c : After-struct_known-2-1) where
-  abbrev k : Start
-  k = c.before.before
-
-  facts : SetupFacts k.args.setup
-  facts = setup-facts k.args.setup k.requires.0
-
-  ρ : Within (pos k.args.setup.plain ∷ pos k.args.setup.viscous ∷ k.args.change ∷ k.args.viscous ∷ []) (4096 ∷ 2048 ∷ 127 * 2 ^ 42 ∷ 2 ^ 51 ∷ [])
-  ρ = natural facts.plain ▹ natural facts.viscous ▹ k.requires.1
-
-plain_is : (c : After-widened) → value c.widened.result ≡ pos 2 *ℤ pos (k c.before).args.setup.plain *ℤ (k c.before).args.change
-plain_is c = c.widened.ensures ∙ result (ρ c.before) w64 plain tt
-
-pub returns : goal.returns
-returns c = let d = c.before in c.added.ensures ∙ ap₂ (λ a b. a +ℤ b) (plain_is d) (result (ρ d.before) w64 viscous tt)
-
-pub overflow_mul-z : goal.overflow_mul-z
-overflow_mul-z c = fits (ρ c) w64 (♯ 2 ⊠ done (nat 0)) tt
+-- both sums, with what a setup multiplies them by
+with_setup : (s : Setup) → Passed (setup_rules s) → {a b : ℤ} → Within (a ∷ b ∷ []) (127 * 2 ^ 42 ∷ 2 ^ 51 ∷ []) → Within (pos s.plain ∷ pos s.viscous ∷ a ∷ b ∷ []) (4096 ∷ 2048 ∷ 127 * 2 ^ 42 ∷ 2 ^ 51 ∷ [])
+with_setup s h ρ = let f = setup-facts s h in natural f.plain ▹ natural f.viscous ▹ ρ
 
 pub overflow_mul-z-2 : goal.overflow_mul-z-2
-overflow_mul-z-2 c = fits (ρ c) w64 plain tt
-
-pub widened-requires : goal.widened-requires
-widened-requires c = wide (held-within (ρ c) w64 plain tt) tt
+overflow_mul-z-2 c = fits (with_setup c.args.setup c.requires.0 c.requires.1) w64 plain tt
 
 pub overflow_mul-s : goal.overflow_mul-s
-overflow_mul-s c = fits (ρ c.before) w64 viscous tt
+overflow_mul-s c = fits (with_setup c.args.setup c.requires.0 c.requires.1) w64 viscous tt
 
-pub added-requires : goal.added-requires
-added-requires c = (rw (plain_is c) (wide (sized (ρ c.before) plain) tt), wide (held-within (ρ c.before) w64 viscous tt) tt)
+pub returns : goal.returns
+returns c =
+    let ρ = with_setup c.args.setup c.requires.0 c.requires.1 in
+    c.added.ensures ∙ ap₂ (λ a b. a +ℤ b) (c.from.ensures ∙ result ρ w64 plain tt) (result ρ w64 viscous tt)

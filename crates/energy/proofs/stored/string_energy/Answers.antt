@@ -1,16 +1,14 @@
 -- Each of the four parts fits.
-use mathlib.Core.Path.{◌≡◌, ◌∙◌, ap₂}
-use mathlib.Core.List.{List, [], ◌∷◌}
-use Prim.Native.Nat.{◌^◌}
-use lib.IntN.{ℤ, pos, ◌+ℤ◌}
-use mir.Syntax.{w64}
-use Rattle.integers.specs.Size.{◌within◌, natural, wide}
-use Rattle.integers.specs.Machine.{Code, var, nat, ♯◌, done, ◌⊟◌, ◌⊠◌, Within, ∅, ◌▹◌, held, value, result, held-within, fits}
+use Rattle.std.specs.Prelude.{[], ◌∷◌, ℤ, pos, ◌+ℤ◌}
+use Rattle.std.proofs.Common.{◌∙◌, ap₂, w64}
+use Rattle.integers.specs.Size.{natural}
+use Rattle.integers.specs.Machine.{Code, var, nat, ♯◌, done, ◌⊟◌, ◌⊠◌, Within, ◌▹◌, result, fits}
+use Rattle.model.specs.Setup.{setup_rules}
 use Rattle.model.specs.declared.Setup.{Setup}
-use Rattle.laws.specs.Accepted.{SetupFacts, setup-facts}
+use Rattle.promises.specs.Promises.{Passed}
+use Rattle.laws.specs.Accepted.{setup-facts}
 use Rattle.energy.specs.Parts.{string_sizes}
 use Rattle.energy.proofs.stored.string_energy.Goals as goal
-use Rattle.energy.proofs.stored.string_energy.Goals.{After-struct_known-3-1, Start}
 
 abbrev change : Code
 change = ♯ 8192 ⊠ var 3
@@ -24,60 +22,23 @@ stiffness = ♯ 2 ⊠ done (nat 1) ⊠ var 5
 abbrev viscous : Code
 viscous = ♯ 0 ⊟ done (nat 2) ⊠ var 6
 
-module _ (c : After-struct_known-3-1) where
-  abbrev k : Start
-  k = c.before.before.before
-
-  abbrev s : Setup
-  s = k.args.setup
-
-  facts : SetupFacts s
-  facts = setup-facts s k.requires.0
-
-  abbrev numbers : List ℤ
-  numbers = pos s.tension ∷ pos s.stiffness ∷ pos s.viscous ∷ k.args.change ∷ k.args.tension ∷ k.args.stiffness ∷ k.args.viscous ∷ []
-
-  ρ : Within numbers (4096 ∷ 1024 ∷ 2048 ∷ string_sizes)
-  ρ = natural facts.tension ▹ natural facts.stiffness ▹ natural facts.viscous ▹ k.requires.1
-
-  change-size : held numbers w64 change within 2 ^ 62
-  change-size = wide (held-within ρ w64 change tt) tt
-
-  tension-size : held numbers w64 tension within 2 ^ 62
-  tension-size = wide (held-within ρ w64 tension tt) tt
-
-  stiffness-size : held numbers w64 stiffness within 2 ^ 62
-  stiffness-size = wide (held-within ρ w64 stiffness tt) tt
-
-  viscous-size : held numbers w64 viscous within 2 ^ 62
-  viscous-size = wide (held-within ρ w64 viscous tt) tt
-
-  sum_is : held numbers w64 change +ℤ held numbers w64 tension +ℤ held numbers w64 stiffness +ℤ held numbers w64 viscous ≡ value numbers change +ℤ value numbers tension +ℤ value numbers stiffness +ℤ value numbers viscous
-  sum_is = ap₂ (λ x y. x +ℤ y) (ap₂ (λ x y. x +ℤ y) (ap₂ (λ x y. x +ℤ y) (result ρ w64 change tt) (result ρ w64 tension tt)) (result ρ w64 stiffness tt)) (result ρ w64 viscous tt)
-
-pub overflow_mul-change : goal.overflow_mul-change
-overflow_mul-change c = fits (ρ c) w64 change tt
-
-pub overflow_mul-l : goal.overflow_mul-l
-overflow_mul-l c = fits (ρ c) w64 (♯ 2 ⊠ done (nat 0)) tt
+-- the four sums, with what a setup multiplies them by
+with_setup : (s : Setup) → Passed (setup_rules s) → {a b c d : ℤ} → Within (a ∷ b ∷ c ∷ d ∷ []) string_sizes → Within (pos s.tension ∷ pos s.stiffness ∷ pos s.viscous ∷ a ∷ b ∷ c ∷ d ∷ []) (4096 ∷ 1024 ∷ 2048 ∷ string_sizes)
+with_setup s h ρ = let f = setup-facts s h in natural f.tension ▹ natural f.stiffness ▹ natural f.viscous ▹ ρ
 
 pub overflow_mul-l-2 : goal.overflow_mul-l-2
-overflow_mul-l-2 c = fits (ρ c) w64 tension tt
-
-pub overflow_mul-m : goal.overflow_mul-m
-overflow_mul-m c = fits (ρ c) w64 (♯ 2 ⊠ done (nat 1)) tt
+overflow_mul-l-2 c = fits (with_setup c.args.setup c.requires.0 c.requires.1) w64 tension tt
 
 pub overflow_mul-m-2 : goal.overflow_mul-m-2
-overflow_mul-m-2 c = fits (ρ c) w64 stiffness tt
+overflow_mul-m-2 c = fits (with_setup c.args.setup c.requires.0 c.requires.1) w64 stiffness tt
 
 pub overflow_mul-s : goal.overflow_mul-s
-overflow_mul-s c = fits (ρ c) w64 (done (nat 2) ⊠ var 6) tt
+overflow_mul-s c = fits (with_setup c.args.setup c.requires.0 c.requires.1) w64 (done (nat 2) ⊠ var 6) tt
 
 pub overflow_sub-s : goal.overflow_sub-s
-overflow_sub-s c = fits (ρ c) w64 viscous tt
-
-pub four-requires : goal.four-requires
-four-requires c = change-size c ▹ tension-size c ▹ stiffness-size c ▹ viscous-size c ▹ ∅
+overflow_sub-s c = fits (with_setup c.args.setup c.requires.0 c.requires.1) w64 viscous tt
 
 pub returns : goal.returns
-returns c = c.four.ensures ∙ sum_is c.before
+returns c =
+    let ρ = with_setup c.args.setup c.requires.0 c.requires.1 in
+    c.four.ensures ∙ ap₂ (λ x y. x +ℤ y) (ap₂ (λ x y. x +ℤ y) (ap₂ (λ x y. x +ℤ y) (result ρ w64 change tt) (result ρ w64 tension tt)) (result ρ w64 stiffness tt)) (result ρ w64 viscous tt)

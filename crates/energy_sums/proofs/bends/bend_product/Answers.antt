@@ -6,8 +6,7 @@ use native.Mathlib.Numerals.{add-one}
 use native.Mathlib.Omega.{arith}
 use lib.IntN.{ℤ, pos, ◌+ℤ◌, ◌-ℤ◌, ◌*ℤ◌}
 use lib.ListN.{length, get_or}
-use mir.Syntax.{w32, w64}
-use mir.Facts.{to_z-of_z}
+use mir.Syntax.{w32}
 use Rattle.integers.specs.Size.{wide}
 use Rattle.integers.specs.Sum.{bend}
 use Rattle.integers.specs.Machine.{Code, var, ♯◌, ◌⊞◌, ◌⊟◌, ◌⊠◌, Within, ∅, ◌▹◌, fits, result, held-within}
@@ -15,6 +14,7 @@ use Rattle.model.specs.Differences.{at}
 use Rattle.laws.specs.EnergySizes.{newer-within, older-within}
 use Rattle.laws.specs.Strings.{at-index}
 use Rattle.energy_sums.specs.Raised.{raised}
+use Rattle.energy_sums.specs.Summing.{held_is}
 use Rattle.energy_sums.proofs.bends.bend_product.Goals as goal
 use Rattle.energy_sums.proofs.bends.bend_product.Goals.{After-old_right-1, Start}
 
@@ -64,31 +64,7 @@ start c = c.before.before.before.before.before.before
 pub returns : goal.returns
 returns c =
     let k = start c.before in
-    to_z-of_z {w = w64} (record { sfits = c.raised_product.type_inv }) ∙ c.raised_product.ensures ∙ ap₂ raised (result (ρ k) w32 bending tt ∙ bend_is k (u k)) (result (ρ k) w32 old-bending tt ∙ bend_is k (v k))
-
-pub overflow_sub-left : goal.overflow_sub-left
-overflow_sub-left c = c.requires.1
-
-pub bounds-newer-i : goal.bounds-newer-i
-bounds-newer-i c = let l = in-newer c in omega arith
-
-pub bounds-newer-i-2 : goal.bounds-newer-i-2
-bounds-newer-i-2 c = let l = in-newer c.before in omega arith
-
-pub bounds-newer-i-3 : goal.bounds-newer-i-3
-bounds-newer-i-3 c = in-newer c.before.before
-
-pub overflow_sub-old_left : goal.overflow_sub-old_left
-overflow_sub-old_left c = c.requires.1
-
-pub bounds-older-i : goal.bounds-older-i
-bounds-older-i c = let l = in-older c.before.before.before in omega arith
-
-pub bounds-older-i-2 : goal.bounds-older-i-2
-bounds-older-i-2 c = let l = in-older c.before.before.before.before in omega arith
-
-pub bounds-older-i-3 : goal.bounds-older-i-3
-bounds-older-i-3 c = in-older c.before.before.before.before.before
+    held_is c.raised_product.type_inv c.raised_product.ensures ∙ ap₂ raised (result (ρ k) w32 bending tt ∙ bend_is k (u k)) (result (ρ k) w32 old-bending tt ∙ bend_is k (v k))
 
 pub overflow_mul-own : goal.overflow_mul-own
 overflow_mul-own c = fits (ρ (start c)) w32 (♯ 2 ⊠ var 1) tt

@@ -7,7 +7,6 @@ use lib.IntN.{ℤ, pos, ◌-ℤ◌, ◌*ℤ◌}
 use lib.ListN.{length, get_or}
 use mir.Syntax.{w32, w64}
 use mir.Val.{to_z, of_z}
-use mir.Facts.{to_z-of_z}
 use Rattle.integers.specs.Solve.{◌⊕◌, ◌⊖◌, ◌⊗◌, #◌, ◌≐◌, solve}
 use Rattle.integers.specs.Sum.{sum, bend}
 use Rattle.integers.specs.Size.{◌within◌, ◌⟨+⟩◌, ◌⟨-⟩◌, ◌⟨*⟩◌, num, wide}
@@ -15,7 +14,7 @@ use Rattle.integers.specs.Machine.{Code, var, ♯◌, ◌⊟◌, ◌⊠◌, With
 use Rattle.model.specs.Differences.{at}
 use Rattle.laws.specs.EnergySizes.{Strings, newer-within, older-within}
 use Rattle.energy_sums.specs.Raised.{raised, raised-within, only-term}
-use Rattle.energy_sums.specs.Summing.{next_fits, next-sum}
+use Rattle.energy_sums.specs.Summing.{held_is, next_fits, next-sum}
 use Rattle.energy_sums.proofs.bends.bend_products.Invariants.{term}
 use Rattle.energy_sums.proofs.bends.bend_products.Goals as goal
 use Rattle.energy_sums.proofs.bends.bend_products.Goals.{After-bend_product-total, After-old_right-1, Start}
@@ -55,7 +54,7 @@ loop-i-init c =
     let two = (start a).requires.1 in (
       omega arith,
       omega arith,
-      to_z-of_z {w = w64} (record { sfits = c.raised_product-total.type_inv }) ∙ c.raised_product-total.ensures
+      held_is c.raised_product-total.type_inv c.raised_product-total.ensures
           ∙ ap₂ raised (result (ρ a) w32 bending tt ∙ bend_is (u a)) (result (ρ a) w32 old-bending tt ∙ bend_is (v a)) ∙ only-term (term (u a) (v a)),
     )
 
@@ -80,7 +79,16 @@ module _ (c : After-bend_product-total) where
   sofar = c.loop-i.invariant.2
 
   term_is : to_z w64 (of_z w64 c.bend_product-total.result) ≡ terms i
-  term_is = to_z-of_z {w = w64} (record { sfits = c.bend_product-total.type_inv }) ∙ c.bend_product-total.ensures
+  term_is = held_is c.bend_product-total.type_inv c.bend_product-total.ensures
+
+pub raised_product-total-requires : goal.raised_product-total-requires
+raised_product-total-requires c = (wide (held-within (ρ c) w32 bending tt) tt, wide (held-within (ρ c) w32 old-bending tt) tt)
+
+pub overflow_add-total : goal.overflow_add-total
+overflow_add-total c = next_fits (terms c) (total c) (i c) (sofar c) (term_is c) (here c) (term-within (k c).requires.0)
+
+pub loop-i-preserved : goal.loop-i-preserved
+loop-i-preserved c = (omega arith, omega (arith, c.loop-i-test.true), next-sum (terms c) (total c) (i c) (sofar c) (term_is c) (here c) (term-within (k c).requires.0))
 
 pub returns : goal.returns
 returns c =
@@ -88,18 +96,6 @@ returns c =
     let u = k.args.newer.now in
     let all : c.loop-i.i ≡ length u - 1 = let l = c.loop-i.invariant.1 in omega (arith, c.loop-i-test.false) in
     c.loop-i.invariant.2 ∙ ap (λ (n : ℕ). sum n (term u k.args.older.now)) all
-
-pub bounds-newer-0 : goal.bounds-newer-0
-bounds-newer-0 c = omega (arith, c.requires.1)
-
-pub bounds-newer-1 : goal.bounds-newer-1
-bounds-newer-1 c = omega (arith, c.requires.1)
-
-pub bounds-older-0 : goal.bounds-older-0
-bounds-older-0 c = let e = c.requires.0.same in omega (arith, c.requires.1)
-
-pub bounds-older-1 : goal.bounds-older-1
-bounds-older-1 c = let e = c.requires.0.same in omega (arith, c.requires.1)
 
 pub overflow_mul-own : goal.overflow_mul-own
 overflow_mul-own c = fits (ρ c) w32 (♯ 2 ⊠ var 0) tt
@@ -112,18 +108,3 @@ overflow_mul-old c = fits (ρ c) w32 (♯ 2 ⊠ var 2) tt
 
 pub overflow_sub-old_right : goal.overflow_sub-old_right
 overflow_sub-old_right c = fits (ρ c) w32 old-bending tt
-
-pub raised_product-total-requires : goal.raised_product-total-requires
-raised_product-total-requires c = (wide (held-within (ρ c) w32 bending tt) tt, wide (held-within (ρ c) w32 old-bending tt) tt)
-
-pub overflow_sub-last : goal.overflow_sub-last
-overflow_sub-last c = omega (arith, (start c.before).requires.1)
-
-pub bend_product-total-requires : goal.bend_product-total-requires
-bend_product-total-requires c = ((start c.before.before.before).requires.0, c.loop-i.invariant.0, omega (arith, c.loop-i-test.true))
-
-pub overflow_add-total : goal.overflow_add-total
-overflow_add-total c = next_fits (terms c) (total c) (i c) (sofar c) (term_is c) (here c) (term-within (k c).requires.0)
-
-pub loop-i-preserved : goal.loop-i-preserved
-loop-i-preserved c = (omega arith, omega (arith, c.loop-i-test.true), next-sum (terms c) (total c) (i c) (sofar c) (term_is c) (here c) (term-within (k c).requires.0))

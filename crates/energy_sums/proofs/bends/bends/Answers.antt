@@ -1,11 +1,9 @@
 -- A string of one point has the bend −2·own.
 use mathlib.Core.Path.{◌≡◌, sym, ◌∙◌, ap₂}
 use mathlib.Core.List.{List, [], ◌∷◌}
-use native.Mathlib.Omega.{arith}
 use lib.IntN.{ℤ, pos, ◌+ℤ◌, ◌-ℤ◌, ◌*ℤ◌}
 use lib.ListN.{get_or}
 use mir.Syntax.{w32, w64}
-use mir.Facts.{to_z-of_z}
 use Rattle.integers.specs.Solve.{◌⊕◌, ◌⊖◌, ◌⊗◌, #◌, ◌≐◌, solve}
 use Rattle.integers.specs.Sum.{sum}
 use Rattle.integers.specs.Machine.{Code, var, cast, ♯◌, ◌⊠◌, Within, ∅, ◌▹◌, fits, result}
@@ -40,26 +38,8 @@ returns-then-newer-eq1 c =
     let one = c.if-newer-eq1.true in
     result (ρ c) w64 four tt ∙ single (record { long = one }) (record { long = sym (k c).requires.same ∙ one })
 
-pub bounds-newer-0 : goal.bounds-newer-0
-bounds-newer-0 c = c.requires.some
-
-pub bounds-older-0 : goal.bounds-older-0
-bounds-older-0 c = let e = c.requires.same in let l = c.requires.some in omega arith
-
-pub overflow_cast-result : goal.overflow_cast-result
-overflow_cast-result c = fits (ρ c) w64 (cast w32 (var 0)) tt
-
-pub overflow_cast-result-then-newer-eq1 : goal.overflow_cast-result-then-newer-eq1
-overflow_cast-result-then-newer-eq1 c = fits (ρ c) w64 (cast w32 (var 1)) tt
-
 pub overflow_mul-result : goal.overflow_mul-result
 overflow_mul-result c = fits (ρ c) w64 product tt
 
 pub overflow_mul-result-then-newer-eq1 : goal.overflow_mul-result-then-newer-eq1
 overflow_mul-result-then-newer-eq1 c = fits (ρ c) w64 four tt
-
-pub many_bends-requires : goal.many_bends-requires
-many_bends-requires c = (c.requires, let l = c.requires.some in omega (arith, c.if-newer-eq1.false))
-
-pub returns : goal.returns
-returns c = to_z-of_z {w = w64} (record { sfits = c.many_bends.type_inv }) ∙ c.many_bends.ensures

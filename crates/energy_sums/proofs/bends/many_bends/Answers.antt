@@ -15,7 +15,7 @@ use Rattle.integers.specs.Machine.{Code, var, ♯◌, ◌⊞◌, ◌⊟◌, ◌�
 use Rattle.laws.specs.EnergySizes.{newer-within, older-within, spans-newer, spans-older}
 use Rattle.energy_sums.specs.Raised.{raise, raised, raised-within}
 use Rattle.energy_sums.specs.Ends.{last, last-bend, raised_bends, all-bends}
-use Rattle.energy_sums.specs.Summing.{few-terms}
+use Rattle.energy_sums.specs.Summing.{held_is, few-terms}
 use Rattle.energy_sums.proofs.bends.many_bends.Goals as goal
 use Rattle.energy_sums.proofs.bends.many_bends.Goals.{After-bend_products-total, After-raised_ends-ends, After-raised_product-last, Start}
 
@@ -71,12 +71,12 @@ module _ (c : After-raised_product-last) where
   end = to_z w64 (of_z w64 c.raised_product-last.result)
 
   total_is : total ≡ sum (n start - 1) (terms start)
-  total_is = to_z-of_z {w = w64} (record { sfits = c.bend_products-total.type_inv }) ∙ c.bend_products-total.ensures
+  total_is = held_is c.bend_products-total.type_inv c.bend_products-total.ensures
 
   end_is : end ≡ terms start (n start - 1)
   end_is =
       let k = start in
-      to_z-of_z {w = w64} (record { sfits = c.raised_product-last.type_inv }) ∙ c.raised_product-last.ensures
+      held_is c.raised_product-last.type_inv c.raised_product-last.ensures
       ∙ ap₂ raised (result (ρ k) w32 bending tt ∙ last-bend (spans-newer k.requires.0) (two k)) (result (ρ k) w32 old-bending tt ∙ last-bend (spans-older k.requires.0) (two k))
 
   total-within : total within 2 ^ 60
@@ -96,7 +96,7 @@ module _ (c : After-raised_ends-ends) where
   ends_is : ends ≡ raise *ℤ (get_or (u here) 0 (pos 0) +ℤ last (u here) (n here) +ℤ get_or (v here) 0 (pos 0) +ℤ last (v here) (n here))
   ends_is =
       let r = ρ here in
-      to_z-of_z {w = w64} (record { sfits = c.raised_ends-ends.type_inv }) ∙ c.raised_ends-ends.ensures
+      held_is c.raised_ends-ends.type_inv c.raised_ends-ends.ensures
       ∙ ap₂ (λ x y. raise *ℤ (x +ℤ y)) (ap₂ (λ x y. x +ℤ y) (ap₂ (λ x y. x +ℤ y) (result r w32 (var 0) tt) (result r w32 (var 2) tt)) (result r w32 (var 3) tt)) (result r w32 (var 5) tt)
 
   ends-within : ends within 2 ^ 45
@@ -115,57 +115,12 @@ pub returns : goal.returns
 returns c =
     let d = c.before in
     let k = here d in
-    to_z-of_z {w = w64} (record { sfits = c.lowered.type_inv }) ∙ c.lowered.ensures
+    held_is c.lowered.type_inv c.lowered.ensures
     ∙ ap (λ z. z -ℤ raise *ℤ raise *ℤ pos (n k)) (to_z-of_z {w = w64} (Size.fits (whole-within d) tt) ∙ ap₂ (λ a b. a +ℤ b) (sum_is d ∙ ap₂ (λ a b. a +ℤ b) (total_is d.before) (end_is d.before)) (ends_is d))
     ∙ all-bends (spans-newer k.requires.0) (spans-older k.requires.0) (omega (arith, two k))
 
 abbrev after-total : After-bend_products-total → Start
 after-total c = c.before.before.before.before.before.before.before
-
-pub bounds-newer-0 : goal.bounds-newer-0
-bounds-newer-0 c = omega (arith, two c)
-
-pub overflow_sub-left : goal.overflow_sub-left
-overflow_sub-left c = two c.before
-
-pub bounds-newer-points : goal.bounds-newer-points
-bounds-newer-points c = omega (arith, two c.before)
-
-pub overflow_sub-own : goal.overflow_sub-own
-overflow_sub-own c = omega (arith, two c.before.before)
-
-pub bounds-newer-points-2 : goal.bounds-newer-points-2
-bounds-newer-points-2 c = omega (arith, two c.before.before)
-
-pub bounds-older-0 : goal.bounds-older-0
-bounds-older-0 c = let l = in-older c.before.before.before in omega arith
-
-pub overflow_sub-old_left : goal.overflow_sub-old_left
-overflow_sub-old_left c = two c.before.before.before.before
-
-pub bounds-older-points : goal.bounds-older-points
-bounds-older-points c = let l = in-older c.before.before.before.before in omega arith
-
-pub overflow_sub-old : goal.overflow_sub-old
-overflow_sub-old c = omega (arith, two c.before.before.before.before.before)
-
-pub bounds-older-points-2 : goal.bounds-older-points-2
-bounds-older-points-2 c = in-older c.before.before.before.before.before
-
-pub bend_products-total-requires : goal.bend_products-total-requires
-bend_products-total-requires c = c.requires
-
-pub overflow_mul-own : goal.overflow_mul-own
-overflow_mul-own c = fits (ρ (after-total c)) w32 (♯ 2 ⊠ var 2) tt
-
-pub overflow_sub-left-2 : goal.overflow_sub-left-2
-overflow_sub-left-2 c = fits (ρ (after-total c)) w32 bending tt
-
-pub overflow_mul-old : goal.overflow_mul-old
-overflow_mul-old c = fits (ρ (after-total c)) w32 (♯ 2 ⊠ var 5) tt
-
-pub overflow_sub-old_left-2 : goal.overflow_sub-old_left-2
-overflow_sub-old_left-2 c = fits (ρ (after-total c)) w32 old-bending tt
 
 pub raised_product-last-requires : goal.raised_product-last-requires
 raised_product-last-requires c = let r = ρ (after-total c) in (wide (held-within r w32 bending tt) tt, wide (held-within r w32 old-bending tt) tt)
@@ -181,3 +136,15 @@ overflow_add-total-2 c = Size.fits (whole-within c) tt
 
 pub lowered-requires : goal.lowered-requires
 lowered-requires c = (rw (to_z-of_z {w = w64} (Size.fits (whole-within c) tt)) (whole-within c), few (here c))
+
+pub overflow_mul-own : goal.overflow_mul-own
+overflow_mul-own c = fits (ρ (after-total c)) w32 (♯ 2 ⊠ var 2) tt
+
+pub overflow_sub-left-2 : goal.overflow_sub-left-2
+overflow_sub-left-2 c = fits (ρ (after-total c)) w32 bending tt
+
+pub overflow_mul-old : goal.overflow_mul-old
+overflow_mul-old c = fits (ρ (after-total c)) w32 (♯ 2 ⊠ var 5) tt
+
+pub overflow_sub-old_left-2 : goal.overflow_sub-old_left-2
+overflow_sub-old_left-2 c = fits (ρ (after-total c)) w32 old-bending tt

@@ -9,23 +9,11 @@ both = var 0 ⊞ var 1 ⊞ var 2 ⊞ var 3
 abbrev ends : Code
 ends = cast w32 (♯ 4194304) ⊠ cast w32 both
 
-pub overflow_cast-result : goal.overflow_cast-result
-overflow_cast-result c = fits c.requires w64 (cast w32 (♯ 4194304)) tt
-
-pub overflow_add-result : goal.overflow_add-result
-overflow_add-result c = fits c.requires w32 (var 0 ⊞ var 1) tt
-
 pub overflow_add-result-2 : goal.overflow_add-result-2
 overflow_add-result-2 c = fits c.requires w32 (var 0 ⊞ var 1 ⊞ var 2) tt
 
 pub overflow_add-result-3 : goal.overflow_add-result-3
 overflow_add-result-3 c = fits c.requires w32 both tt
-
-pub overflow_cast-result-2 : goal.overflow_cast-result-2
-overflow_cast-result-2 c = fits c.requires w64 (cast w32 both) tt
-
-pub overflow_mul-result : goal.overflow_mul-result
-overflow_mul-result c = fits c.requires w64 ends tt
 
 pub returns : goal.returns
 returns c = result c.requires w64 ends tt

@@ -1,18 +1,13 @@
 -- Where no contact variable is other than 0, the sum is 0.
-use mathlib.Core.Path.{sym, ◌∙◌}
-use mir.Syntax.{w64}
-use mir.Facts.{to_z-of_z}
+use Rattle.std.proofs.Common.{sym, refl}
+use Rattle.model.specs.Ranges.{contact_ok}
+use Rattle.laws.specs.Sizes.{bounded}
 use Rattle.energy_sums.specs.Contacts.{all-zero, zero-sum}
 use Rattle.energy_sums.proofs.contacts.contact_sum.Goals as goal
 
-pub returns-then-all_inside_i32 : goal.returns-then-all_inside_i32
-returns-then-all_inside_i32 c =
-    let k = c.before.before in
-    let ψ = k.args.contact.now in
-    sym (zero-sum ψ k.requires.0 (all-zero ψ c.all_inside_i32.ensures c.if-all_inside_i32.true))
+pub returns-then-all_zero : goal.returns-then-all_zero
+returns-then-all_zero c = let ψ = c.args.contact.now in sym (zero-sum ψ c.requires.0 (all-zero ψ c.all_zero.ensures c.if-all_zero.true))
 
-pub contact_squares-requires : goal.contact_squares-requires
-contact_squares-requires c = c.requires
-
-pub returns : goal.returns
-returns c = to_z-of_z {w = w64} (record { sfits = c.contact_squares.type_inv }) ∙ c.contact_squares.ensures
+pub squares-requires : goal.squares-requires
+unfolding contact_ok
+squares-requires c = (tt, refl, c.requires.0, bounded 67108864 c.args.contact.now c.requires.1)

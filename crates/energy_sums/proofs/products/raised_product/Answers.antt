@@ -1,9 +1,7 @@
 -- The product of the raised numbers fits.
 use mathlib.Core.Path.{◌≡◌, ◌∙◌, ap, ap₂}
-use Prim.Native.Nat.{◌*◌, ◌^◌}
-use lib.Dec.{ltb→lt}
+use Prim.Native.Nat.{◌*◌}
 use lib.IntN.{pos, ◌+ℤ◌, ◌*ℤ◌}
-use native.Mathlib.Nat.{lt_of_le_of_lt}
 use mir.Syntax.{w64}
 use mir.Facts.{to_z-of_z}
 use Rattle.integers.specs.Size.{◌within◌}
@@ -25,15 +23,3 @@ module _ (c : After-raised-b) where
 
 pub returns : goal.returns
 returns c = to_z-of_z {w = w64} (Size.fits (product-size c) tt) ∙ product_is c
-
-pub raised-a-requires : goal.raised-a-requires
-raised-a-requires k = rw (to_z-of_z k.ranges.x) k.requires.0
-
-pub raised-b-requires : goal.raised-b-requires
-raised-b-requires c = rw (to_z-of_z c.ranges.y) c.requires.1
-
-pub overflow_mul-result : goal.overflow_mul-result
-overflow_mul-result c = record { fits = lt_of_le_of_lt (product-size c).size (ltb→lt raised_size (2 ^ 64) tt) }
-
-pub overflow_cast-result-3 : goal.overflow_cast-result-3
-overflow_cast-result-3 c = Size.fits (product-size c) tt

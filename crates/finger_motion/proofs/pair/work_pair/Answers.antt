@@ -1,57 +1,37 @@
 -- `work_pair` meets its contract: the finger's system, solved, and what its moves leave of both gradients.
 use mathlib.Core.Path.{◌≡◌, ◌∙◌, ap}
-use mathlib.Core.List.{List, [], ◌∷◌}
+use mathlib.Core.List.{[], ◌∷◌}
 use Prim.Native.Nat.{◌^◌}
-use borrow.Author.Rules.{sfits_of}
-use lib.IntN.{ℤ, pos, ◌+ℤ◌, ◌-ℤ◌, ◌*ℤ◌}
-use lib.ListN.{get_or}
+use lib.Dec.{lit<}
+use lib.IntN.{ℤ, ◌+ℤ◌, ◌-ℤ◌, ◌*ℤ◌}
 use mir.Syntax.{w32, w64}
 use mir.Val.{to_z, of_z}
 use mir.Facts.{to_z-of_z}
+use Rattle.integers.specs.Bits.{back}
 use Rattle.integers.specs.Machine.{Code, var, ◌⊟◌, ◌⊠◌, Within, ∅, ◌▹◌, held, result, held-within, fits}
 use Rattle.integers.specs.Size.{wide}
 use Rattle.integers.specs.Solve.{◌⊕◌, ◌⊖◌, ◌⊗◌, ◌≐◌, solve}
-use Rattle.model.specs.Step.{factor, left}
+use Rattle.model.specs.Ranges.{contact_ok, force_ok}
+use Rattle.model.specs.Step.{factor, left, finger_system}
 use Rattle.model.specs.System.{System, rounded₁, rounded₂}
+use Rattle.model.specs.declared.Finger.{Finger}
+use Rattle.model.specs.declared.Setup.{Setup}
 use Rattle.laws.specs.Accepted.{setup-facts}
 use Rattle.laws.specs.LastMoves.{with_contact, worked_system}
 use Rattle.laws.specs.MoveSizes.{move_size}
 use Rattle.laws.specs.Moves.{factor-positive}
 use Rattle.laws.specs.Pulling.{pair_left}
-use Rattle.laws.specs.Sizes.{factor-size}
-use Rattle.rounding.specs.Systems.{rounded}
+use Rattle.laws.specs.Sizes.{factor-size, inside-within}
+use Rattle.motion.specs.AtPoint.{read}
 use Rattle.motion.specs.MoveRanges.{point_sizes}
-use Rattle.finger_motion.specs.Pair.{whole-size, move-small, finger-move-size}
+use Rattle.finger_motion.specs.Moves.{moves_of}
+use Rattle.finger_motion.specs.Pair.{PairRanges, Pair, whole-size, move-small, finger-move-size}
+use Rattle.finger_motion.specs.declared.system.Moves.{Moves}
 use Rattle.finger_motion.proofs.pair.work_pair.Goals as goal
-use Rattle.finger_motion.proofs.pair.work_pair.Goals.{After-gradient_left-finger_left, After-point_side-whole, After-struct_told-1, Start}
 
 -- old + new φ by what it falls by, as the code has it, and by what it rises by
 falls : (φ g w y : ℤ) → φ +ℤ (φ -ℤ g *ℤ (w -ℤ y)) ≡ φ +ℤ (φ +ℤ g *ℤ (y -ℤ w))
 falls = solve 4 (λ φ g w y. φ ⊕ (φ ⊖ g ⊗ (w ⊖ y)) ≐ φ ⊕ (φ ⊕ g ⊗ (y ⊖ w))) tt
-
-point-sizes : (a : Start) → Within (a.args.side ∷ a.args.own ∷ a.args.contact ∷ []) point_sizes
-point-sizes a = let (r, h) = a.requires in r.side ▹ h.own.0 ▹ r.contact ▹ ∅
-
-pub point_side-whole-requires : goal.point_side-whole-requires
-point_side-whole-requires c = let sizes = point-sizes c.before in held-within sizes w64 (var 0) tt ▹ held-within sizes w64 (var 1) tt ▹ held-within sizes w32 (var 2) tt ▹ ∅
-
--- the equation of the point
-module _ (c : After-point_side-whole) where
-  abbrev start : Start
-  start = c.before.before
-
-  factor_is : to_z w64 (of_z w64 c.point_factor-factor.result) ≡ factor start.args.setup start.args.own
-  factor_is = to_z-of_z {w = w64} (sfits_of c.point_factor-factor.type_inv) ∙ c.point_factor-factor.ensures ∙ ap (factor start.args.setup) (to_z-of_z start.ranges.own)
-
-  side_is : to_z w64 (of_z w64 c.point_side-whole.result) ≡ with_contact start.args.side start.args.contact start.args.own
-  side_is = to_z-of_z {w = w64} (sfits_of c.point_side-whole.type_inv) ∙ c.point_side-whole.ensures ∙ (λ i. with_contact (to_z-of_z start.ranges.side i) (to_z-of_z start.ranges.contact i) (to_z-of_z start.ranges.own i))
-
-pub finger_moves-pair-requires : goal.finger_moves-pair-requires
-finger_moves-pair-requires c =
-    let k = start c in
-    let (r, h) = k.requires in
-    rw (factor_is c, side_is c, to_z-of_z k.ranges.gradient, to_z-of_z k.ranges.force)
-    (r.setup, r.held, factor-positive k.args.setup k.args.own, factor-size (setup-facts k.args.setup r.setup) h.own.0, wide (whole-size r h) tt, h.gradient.0, r.force)
 
 abbrev change : Code
 change = var 0 ⊠ var 2
@@ -59,74 +39,93 @@ change = var 0 ⊠ var 2
 abbrev finger-change : Code
 finger-change = var 1 ⊠ (var 3 ⊟ var 2)
 
--- the moves, and what the contact variables fall by
-module _ (c : After-struct_told-1) where
-  abbrev called : After-point_side-whole
-  called = c.before.before.before.before
+module _ {s : Setup} {b ψ : ℤ} {finger : Finger} {f own g : ℤ} (given : PairRanges s b ψ finger f × Pair (own, g)) where
+  point-sizes : Within (b ∷ own ∷ ψ ∷ []) point_sizes
+  point-sizes = let (r, h) = given in r.side ▹ h.own.0 ▹ r.contact ▹ ∅
 
-  abbrev k : Start
-  k = start called
+  -- the arguments, read from their bits
+  own-read : to_z w64 (of_z w64 own) ≡ own
+  own-read = back w64 given.1.own.0 (lit< tt)
+
+  gradient-read : to_z w64 (of_z w64 g) ≡ g
+  gradient-read = back w64 given.1.gradient.0 (lit< tt)
+
+  variable-read : to_z w32 (of_z w32 ψ) ≡ ψ
+  variable-read = back w32 given.0.contact (lit< tt)
+
+  held-read : to_z w32 (of_z w32 finger.contact) ≡ finger.contact
+  unfolding contact_ok
+  held-read = back w32 (inside-within 67108864 finger.contact given.0.held.contact) (lit< tt)
+
+  force-read : to_z w32 (of_z w32 f) ≡ f
+  unfolding force_ok
+  force-read = back w32 (inside-within 1073741824 f given.0.force) (lit< tt)
+
+  -- the equation of the point
+  factor_is : {x : ℤ} → x ≡ factor s (to_z w64 (of_z w64 own)) → to_z w64 (of_z w64 x) ≡ factor s own
+  factor_is e = read w64 (e ∙ ap (factor s) own-read) (factor-size (setup-facts s given.0.setup) given.1.own.0) (lit< tt)
+
+  side_is : {x : ℤ} → x ≡ with_contact (to_z w64 (of_z w64 b)) (to_z w32 (of_z w32 ψ)) (to_z w64 (of_z w64 own)) → to_z w64 (of_z w64 x) ≡ with_contact b ψ own
+  side_is e = read w64 (e ∙ (λ i. with_contact (back w64 given.0.side (lit< tt) i) (variable-read i) (own-read i))) (whole-size given.0 given.1) (lit< tt)
 
   abbrev pair : System
-  pair = let a = k.args in worked_system a.setup a.side a.contact a.finger a.force (a.own, a.gradient)
+  pair = worked_system s b ψ finger f (own, g)
 
-  abbrev moves : List ℤ
-  moves = c.finger_moves-pair.result
+  solved : {x y : ℤ} {m : Moves} → x ≡ factor s (to_z w64 (of_z w64 own)) → y ≡ with_contact (to_z w64 (of_z w64 b)) (to_z w32 (of_z w32 ψ)) (to_z w64 (of_z w64 own))
+      → m ≡ moves_of (finger_system s finger (to_z w64 (of_z w64 x)) (to_z w64 (of_z w64 y)) (to_z w64 (of_z w64 g)) (to_z w32 (of_z w32 f))) → m ≡ moves_of pair
+  solved e k m = rw (factor_is e, side_is k, gradient-read, force-read) at m
 
-  solved : moves ≡ rounded pair
-  solved = rw (factor_is called, side_is called, to_z-of_z k.ranges.gradient, to_z-of_z k.ranges.force) at c.finger_moves-pair.ensures
+  -- what the contact variables fall by
+  module _ {m : Moves} (moved : m ≡ moves_of pair) where
+    ρ : Within (own ∷ g ∷ m.delta ∷ m.finger_delta ∷ []) (255 ∷ 255 ∷ move_size ∷ 2 ^ 44 ∷ [])
+    ρ = let (r, h) = given in rw moved (h.own.0 ▹ h.gradient.0 ▹ (move-small r h).move ▹ finger-move-size r h ▹ ∅)
 
-  delta_is : get_or moves 0 (pos 0) ≡ rounded₁ pair
-  delta_is = ap (λ l. get_or l 0 (pos 0)) solved
+    -- and what that leaves of the gradients
+    own-left : {x : ℤ} → x ≡ left (to_z w64 (of_z w64 own)) (to_z w32 (of_z w32 ψ) +ℤ (to_z w32 (of_z w32 ψ) -ℤ held (own ∷ g ∷ m.delta ∷ m.finger_delta ∷ []) w64 change)) → x ≡ left own (ψ +ℤ (ψ -ℤ own *ℤ rounded₁ pair))
+    own-left e = rw (result ρ w64 change tt ∙ ap (λ m. own *ℤ m.delta) moved, own-read, variable-read) at e
 
-  finger-delta_is : get_or moves 1 (pos 0) ≡ rounded₂ pair
-  finger-delta_is = ap (λ l. get_or l 1 (pos 0)) solved
+    finger-left : {x : ℤ} → x ≡ left (to_z w64 (of_z w64 g)) (to_z w32 (of_z w32 finger.contact) +ℤ (to_z w32 (of_z w32 finger.contact) -ℤ held (own ∷ g ∷ m.delta ∷ m.finger_delta ∷ []) w64 finger-change))
+        → x ≡ left g (finger.contact +ℤ (finger.contact +ℤ g *ℤ (rounded₁ pair -ℤ rounded₂ pair)))
+    finger-left e = rw (result ρ w64 finger-change tt ∙ ap (λ m. g *ℤ (m.finger_delta -ℤ m.delta)) moved, gradient-read, held-read, falls) at e
 
-  abbrev numbers : List ℤ
-  numbers = k.args.own ∷ k.args.gradient ∷ get_or moves 0 (pos 0) ∷ get_or moves 1 (pos 0) ∷ []
+pub point_side-whole-requires : goal.point_side-whole-requires
+point_side-whole-requires c = let sizes = point-sizes c.requires in held-within sizes w64 (var 0) tt ▹ held-within sizes w64 (var 1) tt ▹ held-within sizes w32 (var 2) tt ▹ ∅
 
-  ρ : Within numbers (255 ∷ 255 ∷ move_size ∷ 2 ^ 44 ∷ [])
-  ρ = let (r, h) = k.requires in rw (delta_is, finger-delta_is) (h.own.0 ▹ h.gradient.0 ▹ (move-small r h).move ▹ finger-move-size r h ▹ ∅)
+pub finger_moves-moves-requires : goal.finger_moves-moves-requires
+finger_moves-moves-requires c =
+    let g = c.requires in
+    let (r, h) = g in
+    rw (factor_is g c.point_factor-factor.ensures, side_is g c.point_side-whole.ensures, gradient-read g, force-read g)
+    (r.setup, r.held, factor-positive c.args.setup c.args.gradients.own, factor-size (setup-facts c.args.setup r.setup) h.own.0, wide (whole-size r h) tt, h.gradient.0, r.force)
 
-  change_is : held numbers w64 change ≡ k.args.own *ℤ rounded₁ pair
-  change_is = result ρ w64 change tt ∙ rw delta_is
+pub overflow_mul-change : goal.overflow_mul-change
+overflow_mul-change c = fits (ρ c.requires (solved c.requires c.point_factor-factor.ensures c.point_side-whole.ensures c.finger_moves-moves.ensures)) w64 change tt
 
-  finger-change_is : held numbers w64 finger-change ≡ k.args.gradient *ℤ (rounded₂ pair -ℤ rounded₁ pair)
-  finger-change_is = result ρ w64 finger-change tt ∙ rw (delta_is, finger-delta_is)
+pub overflow_sub-finger_change : goal.overflow_sub-finger_change
+overflow_sub-finger_change c = fits (ρ c.requires (solved c.requires c.point_factor-factor.ensures c.point_side-whole.ensures c.finger_moves-moves.ensures)) w64 (var 3 ⊟ var 2) tt
+
+pub overflow_mul-finger_change : goal.overflow_mul-finger_change
+overflow_mul-finger_change c = fits (ρ c.requires (solved c.requires c.point_factor-factor.ensures c.point_side-whole.ensures c.finger_moves-moves.ensures)) w64 finger-change tt
 
 pub gradient_left-own_left-requires : goal.gradient_left-own_left-requires
-gradient_left-own_left-requires c = (rw (to_z-of_z (k c).ranges.own) (k c).requires.1.own.1, wide (held-within (ρ c) w64 change tt) tt)
+gradient_left-own_left-requires c =
+    let moved = solved c.requires c.point_factor-factor.ensures c.point_side-whole.ensures c.finger_moves-moves.ensures in
+    (rw (own-read c.requires) c.requires.1.own.1, wide (held-within (ρ c.requires moved) w64 change tt) tt)
 
 pub gradient_left-finger_left-requires : goal.gradient_left-finger_left-requires
-gradient_left-finger_left-requires d = let c = d.before in (rw (to_z-of_z (k c).ranges.gradient) (k c).requires.1.gradient.1, wide (held-within (ρ c) w64 finger-change tt) tt)
-
--- the gradients that are left
-module _ (d : After-gradient_left-finger_left) where
-  abbrev c : After-struct_told-1
-  c = d.before.before
-
-  held_is : to_z w32 (of_z w32 (k c).args.finger.contact) ≡ (k c).args.finger.contact
-  held_is = to_z-of_z {w = w32} (sfits_of c.struct_told-1.given.1.1.0.1)
-
-  own-left : (let a = (k c).args in to_z w64 (of_z w64 d.gradient_left-own_left.result) ≡ left a.own (a.contact +ℤ (a.contact -ℤ a.own *ℤ rounded₁ (pair c))))
-  own-left = to_z-of_z {w = w64} (sfits_of d.gradient_left-own_left.type_inv) ∙ (rw (change_is c, to_z-of_z (k c).ranges.own, to_z-of_z (k c).ranges.contact) at d.gradient_left-own_left.ensures)
-
-  finger-left : (let a = (k c).args in to_z w64 (of_z w64 d.gradient_left-finger_left.result) ≡ left a.gradient (a.finger.contact +ℤ (a.finger.contact +ℤ a.gradient *ℤ (rounded₁ (pair c) -ℤ rounded₂ (pair c)))))
-  finger-left = to_z-of_z {w = w64} (sfits_of d.gradient_left-finger_left.type_inv) ∙ (rw (finger-change_is c, to_z-of_z (k c).ranges.gradient, held_is, falls) at d.gradient_left-finger_left.ensures)
+gradient_left-finger_left-requires c =
+    let moved = solved c.requires c.point_factor-factor.ensures c.point_side-whole.ensures c.finger_moves-moves.ensures in
+    (rw (gradient-read c.requires) c.requires.1.gradient.1, wide (held-within (ρ c.requires moved) w64 finger-change tt) tt)
 
 pub returns : goal.returns
 unfolding pair_left
-returns d = record {
-  gradients = λ i. (own-left d i, finger-left d i);
-  delta = result (ρ (c d)) w64 (var 2) tt ∙ delta_is (c d);
-  finger-delta = result (ρ (c d)) w64 (var 3) tt ∙ finger-delta_is (c d);
-}
-
-pub overflow_mul-own : goal.overflow_mul-own
-overflow_mul-own c = fits (ρ c) w64 change tt
-
-pub overflow_sub-finger_delta : goal.overflow_sub-finger_delta
-overflow_sub-finger_delta c = fits (ρ c.before) w64 (var 3 ⊟ var 2) tt
-
-pub overflow_mul-gradient : goal.overflow_mul-gradient
-overflow_mul-gradient c = fits (ρ c.before) w64 finger-change tt
+returns c =
+    let moved = solved c.requires c.point_factor-factor.ensures c.point_side-whole.ensures c.finger_moves-moves.ensures in
+    record {
+      gradients = λ i. (
+        (to_z-of_z {w = w64} (record { sfits = c.gradient_left-own_left.type_inv }) ∙ own-left c.requires moved c.gradient_left-own_left.ensures) i,
+        (to_z-of_z {w = w64} (record { sfits = c.gradient_left-finger_left.type_inv }) ∙ finger-left c.requires moved c.gradient_left-finger_left.ensures) i,
+      );
+      delta = ap (λ m. m.delta) moved;
+      finger-delta = ap (λ m. m.finger_delta) moved;
+    }

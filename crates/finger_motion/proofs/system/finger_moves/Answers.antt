@@ -3,8 +3,12 @@ use mathlib.Core.Path.{◌≡◌, sym, subst, ◌∙◌, ap}
 use mathlib.Core.List.{List, [], ◌∷◌}
 use Prim.Native.Nat.{ℕ, ◌^◌}
 use lib.IntN.{ℤ, pos, neg_ℤ, +ℤ_idl, ◌*ℤ◌}
+use lib.Dec.{T}
 use lib.Signed.{◌<ℤ◌}
+use borrow.Author.Rules.{rules}
 use mir.Syntax.{w32, w64}
+use mir.Val.{SFits}
+use mir.Facts.{to_z-of_z}
 use Rattle.integers.specs.Size.{◌within◌, natural, wide}
 use Rattle.integers.specs.Machine.{Code, var, nat, ♯◌, ◌⊞◌, ◌⊟◌, ◌⊠◌, cast, done, Within, ∅, ◌▹◌, held, result, held-within, fits}
 use Rattle.model.specs.System.{System, det}
@@ -12,13 +16,16 @@ use Rattle.model.specs.Step.{finger_system}
 use Rattle.model.specs.Ranges.{displacement_ok, contact_ok, force_ok}
 use Rattle.model.specs.declared.Setup.{Setup}
 use Rattle.model.specs.declared.Finger.{Finger}
+use Rattle.promises.specs.Promises.{Passed}
+use Rattle.model.specs.Setup.{setup_rules}
+use Rattle.motion.specs.MoveRanges.{FingerRanges}
 use Rattle.laws.specs.Accepted.{SetupFacts, setup-facts}
 use Rattle.laws.specs.Moves.{regular-system}
 use Rattle.laws.specs.Sizes.{inside-within}
 use Rattle.rounding.specs.Same.{same-system}
-use Rattle.rounding.specs.Systems.{system_of, rounded, Solvable}
+use Rattle.rounding.specs.Systems.{rounded, Solvable}
 use Rattle.finger_motion.proofs.system.finger_moves.Goals as goal
-use Rattle.finger_motion.proofs.system.finger_moves.Goals.{After-struct_told-3-1, Start}
+use Rattle.finger_motion.proofs.system.finger_moves.Goals.{After-struct_told-4-1}
 
 -- factor, right side, gradient, mass, the finger's heights and contact variable, force
 abbrev sizes : List ℕ
@@ -48,116 +55,74 @@ c₁ = var 1 ⊟ done pull
 abbrev c₂ : Code
 c₂ = ♯ 2 ⊠ nat 3 ⊠ done change ⊞ cast w32 (var 7) ⊞ done pull
 
-abbrev Read : Type 0
-Read = After-struct_told-3-1
+module _ (s : Setup) (force : ℤ) {finger : Finger} {factor side gradient : ℤ}
+    (given : Passed (setup_rules s) × FingerRanges finger × (pos 0 <ℤ factor) × (factor within 73217) × (side within 2 ^ 37) × (gradient within 255) × T (force_ok force))
+  where
+    abbrev numbers : List ℤ
+    numbers = factor ∷ side ∷ gradient ∷ pos s.finger.mass ∷ finger.newer ∷ finger.older ∷ finger.contact ∷ force ∷ []
 
-abbrev start : Read → Start
-start c = c.before.before.before
+    facts : SetupFacts s
+    facts = setup-facts s given.0
 
-module _ (c : Read) where
-  abbrev s : Setup
-  s = (start c).args.setup
+    ρ : Within numbers sizes
+    unfolding displacement_ok contact_ok force_ok
+    ρ =
+        let k = given in
+        k.3 ▹ k.4 ▹ k.5 ▹ natural facts.mass
+        ▹ inside-within 1048576 finger.newer k.1.newer ▹ inside-within 1048576 finger.older k.1.older ▹ inside-within 67108864 finger.contact k.1.contact
+        ▹ inside-within 1073741824 force k.6 ▹ ∅
 
-  abbrev finger : Finger
-  finger = (start c).args.finger
+    -- the system as the code has it
+    abbrev passed : System
+    passed = let h = held numbers w64 in record { a₁₁ = h c₁₁; a₁₂ = h c₁₂; a₂₁ = h c₁₂; a₂₂ = h c₂₂; b₁ = h c₁; b₂ = h c₂ }
 
-  abbrev numbers : List ℤ
-  numbers = (start c).args.factor ∷ (start c).args.side ∷ (start c).args.gradient ∷ pos s.finger.mass ∷ finger.newer ∷ finger.older ∷ finger.contact ∷ (start c).args.force ∷ []
+    minus-square : held numbers w64 c₁₂ ≡ neg_ℤ (gradient *ℤ gradient)
+    minus-square = result ρ w64 c₁₂ tt ∙ +ℤ_idl _
 
-  facts : SetupFacts s
-  facts = setup-facts s (start c).requires.0
+    same : passed ≡ finger_system s finger factor side gradient force
+    same = same-system (result ρ w64 c₁₁ tt) minus-square minus-square (result ρ w64 c₂₂ tt) (result ρ w64 c₁ tt) (result ρ w64 c₂ tt)
 
-  ρ : Within numbers sizes
-  unfolding displacement_ok contact_ok force_ok
-  ρ =
-      let k = (start c).requires in
-      k.3 ▹ k.4 ▹ k.5 ▹ natural facts.mass
-      ▹ inside-within 1048576 finger.newer k.1.newer ▹ inside-within 1048576 finger.older k.1.older ▹ inside-within 67108864 finger.contact k.1.contact
-      ▹ inside-within 1073741824 (start c).args.force k.6 ▹ ∅
+    solvable : Solvable passed
+    solvable = record {
+      regular = subst (λ (t : System). pos 0 <ℤ det t) (sym same) (regular-system s finger side gradient force given.2 facts.mass-low);
+      sizes =
+          let b₁ : held numbers w64 c₁ within 2 ^ 38 = wide (held-within ρ w64 c₁ tt) tt in
+          let b₂ : held numbers w64 c₂ within 2 ^ 43 = wide (held-within ρ w64 c₂ tt) tt in
+          held-within ρ w64 c₁₁ tt ▹ held-within ρ w64 c₁₂ tt ▹ held-within ρ w64 c₁₂ tt ▹ held-within ρ w64 c₂₂ tt ▹ b₁ ▹ b₂ ▹ ∅;
+    }
 
-  -- the arrays that are passed on
-  abbrev passed : System
-  passed =
-      let h = held numbers w64 in
-      system_of ((h c₁₁ ∷ h c₁₂ ∷ []) ∷ (h c₁₂ ∷ h c₂₂ ∷ []) ∷ []) (h c₁ ∷ h c₂ ∷ [])
-
-  abbrev meant : System
-  meant = finger_system s finger (start c).args.factor (start c).args.side (start c).args.gradient (start c).args.force
-
-  minus-square : held numbers w64 c₁₂ ≡ neg_ℤ ((start c).args.gradient *ℤ (start c).args.gradient)
-  minus-square = result ρ w64 c₁₂ tt ∙ +ℤ_idl _
-
-  same : passed ≡ meant
-  same = same-system (result ρ w64 c₁₁ tt) minus-square minus-square (result ρ w64 c₂₂ tt) (result ρ w64 c₁ tt) (result ρ w64 c₂ tt)
-
-  solvable : Solvable passed
-  solvable = record {
-    regular = subst (λ (t : System). pos 0 <ℤ det t) (sym same) (regular-system s finger (start c).args.side (start c).args.gradient (start c).args.force (start c).requires.2 facts.mass-low);
-    sizes =
-        let b₁ : held numbers w64 c₁ within 2 ^ 38 = wide (held-within ρ w64 c₁ tt) tt in
-        let b₂ : held numbers w64 c₂ within 2 ^ 43 = wide (held-within ρ w64 c₂ tt) tt in
-        held-within ρ w64 c₁₁ tt ▹ held-within ρ w64 c₁₂ tt ▹ held-within ρ w64 c₁₂ tt ▹ held-within ρ w64 c₂₂ tt ▹ b₁ ▹ b₂ ▹ ∅;
-  }
+parts-fit : (c : After-struct_told-4-1) → SFits w64 c.solve-solution.result.x × SFits w64 c.solve-solution.result.y
+parts-fit c = search rules
 
 pub returns : goal.returns
-returns c = c.solve.ensures ∙ ap rounded (same c.before)
+returns c =
+    let solved = c.solve-solution.ensures ∙ ap rounded (same c.args.setup c.args.force c.requires) in
+    let fit = parts-fit c in
+    λ i. record { delta = (to_z-of_z fit.0 ∙ ap (λ q. q.x) solved) i; finger_delta = (to_z-of_z fit.1 ∙ ap (λ q. q.y) solved) i }
 
-pub overflow_mul-square : goal.overflow_mul-square
-overflow_mul-square c = fits (ρ c) w64 square tt
-
-pub overflow_mul-pull : goal.overflow_mul-pull
-overflow_mul-pull c = fits (ρ c) w64 (♯ 2 ⊠ var 2) tt
-
-pub overflow_cast-pull : goal.overflow_cast-pull
-overflow_cast-pull c = fits (ρ c) w64 (cast w32 (var 6)) tt
+pub solve-solution-requires : goal.solve-solution-requires
+solve-solution-requires c = solvable c.args.setup c.args.force c.requires
 
 pub overflow_mul-pull-2 : goal.overflow_mul-pull-2
-overflow_mul-pull-2 c = fits (ρ c) w64 pull tt
+overflow_mul-pull-2 c = fits (ρ c.args.setup c.args.force c.requires) w64 pull tt
 
-pub overflow_cast-change : goal.overflow_cast-change
-overflow_cast-change c = fits (ρ c) w64 (cast w32 (var 4)) tt
+pub overflow_add-system : goal.overflow_add-system
+overflow_add-system c = fits (ρ c.args.setup c.args.force c.requires) w64 c₁₁ tt
 
-pub overflow_cast-change-2 : goal.overflow_cast-change-2
-overflow_cast-change-2 c = fits (ρ c) w64 (cast w32 (var 5)) tt
+pub overflow_sub-system : goal.overflow_sub-system
+overflow_sub-system c = fits (ρ c.args.setup c.args.force c.requires) w64 c₁₂ tt
 
-pub overflow_sub-change : goal.overflow_sub-change
-overflow_sub-change c = fits (ρ c) w64 change tt
+pub overflow_sub-system-2 : goal.overflow_sub-system-2
+overflow_sub-system-2 c = fits (ρ c.args.setup c.args.force c.requires) w64 c₁₂ tt
 
-pub overflow_add-matrix : goal.overflow_add-matrix
-overflow_add-matrix c = fits (ρ c) w64 c₁₁ tt
+pub overflow_sub-system-3 : goal.overflow_sub-system-3
+overflow_sub-system-3 c = fits (ρ c.args.setup c.args.force c.requires) w64 c₁ tt
 
-pub overflow_sub-matrix : goal.overflow_sub-matrix
-overflow_sub-matrix c = fits (ρ c) w64 c₁₂ tt
+pub overflow_mul-system-2 : goal.overflow_mul-system-2
+overflow_mul-system-2 c = fits (ρ c.args.setup c.args.force c.requires) w64 (♯ 2 ⊠ nat 3 ⊠ done change) tt
 
-pub overflow_sub-matrix-2 : goal.overflow_sub-matrix-2
-overflow_sub-matrix-2 c = fits (ρ c) w64 c₁₂ tt
+pub overflow_add-system-3 : goal.overflow_add-system-3
+overflow_add-system-3 c = fits (ρ c.args.setup c.args.force c.requires) w64 (♯ 2 ⊠ nat 3 ⊠ done change ⊞ cast w32 (var 7)) tt
 
-pub overflow_cast-matrix : goal.overflow_cast-matrix
-overflow_cast-matrix c = fits (ρ c) w64 (nat 3) tt
-
-pub overflow_add-matrix-2 : goal.overflow_add-matrix-2
-overflow_add-matrix-2 c = fits (ρ c) w64 c₂₂ tt
-
-pub overflow_sub-right : goal.overflow_sub-right
-overflow_sub-right c = fits (ρ c) w64 c₁ tt
-
-pub overflow_cast-right : goal.overflow_cast-right
-overflow_cast-right c = fits (ρ c) w64 (nat 3) tt
-
-pub overflow_mul-right : goal.overflow_mul-right
-overflow_mul-right c = fits (ρ c) w64 (♯ 2 ⊠ nat 3) tt
-
-pub overflow_mul-right-2 : goal.overflow_mul-right-2
-overflow_mul-right-2 c = fits (ρ c) w64 (♯ 2 ⊠ nat 3 ⊠ done change) tt
-
-pub overflow_cast-right-2 : goal.overflow_cast-right-2
-overflow_cast-right-2 c = fits (ρ c) w64 (cast w32 (var 7)) tt
-
-pub overflow_add-right : goal.overflow_add-right
-overflow_add-right c = fits (ρ c) w64 (♯ 2 ⊠ nat 3 ⊠ done change ⊞ cast w32 (var 7)) tt
-
-pub overflow_add-right-2 : goal.overflow_add-right-2
-overflow_add-right-2 c = fits (ρ c) w64 c₂ tt
-
-pub solve-requires : goal.solve-requires
-solve-requires c = solvable c
+pub overflow_add-system-4 : goal.overflow_add-system-4
+overflow_add-system-4 c = fits (ρ c.args.setup c.args.force c.requires) w64 c₂ tt

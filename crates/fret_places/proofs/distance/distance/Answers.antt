@@ -4,7 +4,7 @@ use Prim.Native.Nat.{ℕ, ◌+◌, ◌-◌, ◌*◌, ◌/◌, ◌^◌}
 use native.Mathlib.Nat.{mul-one}
 use native.Mathlib.Omega.{arith}
 use borrow.Author.Tests.{leb-true, leb-false}
-use lib.Dec.{lit≤, leb}
+use lib.Dec.{leb}
 use lib.IntN.{pos}
 use lib.Signed.{le_z}
 use Rattle.laws.specs.Frets.{one-reaches, all_past, distance_is, distance-unique}
@@ -63,9 +63,3 @@ returns c =
     let l = b.last in
     let e : c.loop-low.high ≡ c.loop-low.low = omega arith in
     distance-unique k.args.segments k.args.q _ _ record { low = b.reached; high = rw e at b.past } (distance_is k.args.segments k.args.q k.requires.0 k.requires.2)
-
-pub overflow_mul-segments : goal.overflow_mul-segments
-overflow_mul-segments c = omega arith
-
-pub scaled_power-whole-requires : goal.scaled_power-whole-requires
-scaled_power-whole-requires c = (omega arith, lit≤ tt)

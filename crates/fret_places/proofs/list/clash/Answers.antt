@@ -31,9 +31,3 @@ returns c = let l = c.before in let a = l.args in all-judged l.loop-k.invariant.
 
 pub loop-k-init : goal.loop-k-init
 loop-k-init c = (omega arith, none-judged (fret_places c.args.segments c.args.number))
-
-pub overflow_add-k : goal.overflow_add-k
-overflow_add-k c = omega arith
-
-pub place-own-requires : goal.place-own-requires
-place-own-requires c = let k = c.before.before in (k.requires.0, k.requires.1, omega arith)

@@ -2,11 +2,10 @@
 use mathlib.Core.Path.{◌≡◌, ◌∙◌, ap, ap₂}
 use Prim.Native.Nat.{ℕ, ◌*◌, ◌^◌}
 use native.Mathlib.Nat.{zero-add}
-use native.Mathlib.Omega.{arith}
 use lib.IntN.{pos, ◌*ℤ◌}
 use Rattle.integers.specs.Size.{natural, wide}
 use Rattle.model.specs.Wide.{value}
-use Rattle.fret_places.specs.Powers.{cube, twelfth, shifted, square-most, cube-most, sixth-most, ninth-most, twelfth-most, scaled-most}
+use Rattle.fret_places.specs.Powers.{cube, twelfth, shifted, ninth-most, twelfth-most, scaled-most}
 use Rattle.fret_places.proofs.powers.scaled_power.Goals as goal
 use Rattle.fret_places.proofs.powers.scaled_power.Goals.{After-times, After-times-2, Start}
 
@@ -25,26 +24,11 @@ returns c =
     let k = c.before.before.before in
     c.times-3.ensures ∙ ap₂ (λ v n. v *ℤ pos n) (twelfth_is c.before) (shifted k.args.q k.requires.1) ∙ ap (λ (n : ℕ). pos (n * 2 ^ k.args.q)) (twelfth (x k))
 
-pub overflow_mul-cube : goal.overflow_mul-cube
-overflow_mul-cube c = omega (arith, square-most c.requires.0)
-
-pub overflow_mul-cube-2 : goal.overflow_mul-cube-2
-overflow_mul-cube-2 c = omega (arith, cube-most c.requires.0)
-
-pub overflow_cast-wide : goal.overflow_cast-wide
-overflow_cast-wide c = omega (arith, cube-most c.requires.0)
-
-pub overflow_mul-sixth : goal.overflow_mul-sixth
-overflow_mul-sixth c = omega (arith, sixth-most c.requires.0)
-
 pub times-requires : goal.times-requires
 times-requires c = rw (zero-add (cube (x c) * cube (x c))) (wide (natural (ninth-most c.requires.0)) tt)
 
 pub times-requires-2 : goal.times-requires-2
 times-requires-2 c = rw (ninth_is c) (wide (natural (twelfth-most c.requires.0)) tt)
-
-pub overflow_shl-q : goal.overflow_shl-q
-overflow_shl-q c = omega (arith, c.requires.1)
 
 pub times-requires-3 : goal.times-requires-3
 times-requires-3 c = let k = c.before.before in rw (twelfth_is c, shifted k.args.q k.requires.1) (wide (natural (scaled-most k.requires.0 k.args.q k.requires.1)) tt)

@@ -30,30 +30,6 @@ held-by-place {l} t {i} e h k = rw (e, get_d_tabulate 129 (at t) (pos 0) i (omeg
 pub returns : goal.returns
 returns c t e k = result (ρ c) w64 body tt ∙ held-by-place t e c.requires.1 k
 
-pub offset_bounds-string-i : goal.offset_bounds-string-i
-offset_bounds-string-i c = let k = c.requires.1 in omega arith
-
-pub bounds-string-i : goal.bounds-string-i
-bounds-string-i c = let k = c.requires.1 in omega arith
-
-pub overflow_add-own : goal.overflow_add-own
-overflow_add-own c = let k = c.requires.1 in omega arith
-
-pub offset_bounds-string-i-2 : goal.offset_bounds-string-i-2
-offset_bounds-string-i-2 c = let k = c.requires.1 in omega arith
-
-pub bounds-string-i-2 : goal.bounds-string-i-2
-bounds-string-i-2 c = let k = c.requires.1 in omega arith
-
-pub overflow_add-right : goal.overflow_add-right
-overflow_add-right c = let k = c.requires.1 in omega arith
-
-pub offset_bounds-string-i-3 : goal.offset_bounds-string-i-3
-offset_bounds-string-i-3 c = let k = c.requires.1 in omega arith
-
-pub bounds-string-i-3 : goal.bounds-string-i-3
-bounds-string-i-3 c = let k = c.requires.1 in omega arith
-
 pub overflow_mul-result : goal.overflow_mul-result
 overflow_mul-result c = fits (ρ c) w64 (♯ 2 ⊠ var 1) tt
 

@@ -29,10 +29,10 @@ module _ (c : Start) where
   s = c.args.setup
 
   abbrev u : List ℤ
-  u = c.args.newer.now
+  u = c.args.state.newer.now
 
   abbrev v : List ℤ
-  v = c.args.older.now
+  v = c.args.state.older.now
 
   abbrev t : List ℤ
   t = c.args.weighted.now
@@ -88,7 +88,7 @@ body = ♯ 8192 ⊠ var 1 ⊞ var 0 ⊞ cast w32 (var 2)
 -- what the two calls gave
 module _ (d : After-difference-change) where
   abbrev a : Start
-  a = d.before.before
+  a = d.before.before.before.before
 
   d1_is : d.d1-terms.result ≡ terms a
   d1_is = d.d1-terms.ensures (weighted (s a) (u a) (v a)) a.requires.1 (in-weighted a)
@@ -110,7 +110,7 @@ pub d1-terms-requires : goal.d1-terms-requires
 d1-terms-requires c = (entry-size c, place c)
 
 pub difference-change-requires : goal.difference-change-requires
-difference-change-requires c = same_length c.before
+difference-change-requires c = same_length c.before.before.before
 
 pub overflow_mul-result : goal.overflow_mul-result
 overflow_mul-result c = fits (ρ c) w64 (♯ 8192 ⊠ var 1) tt

@@ -1,7 +1,7 @@
 -- `weighted` meets its contract.
-use mathlib.Core.Path.{◌≡◌, refl, sym, ◌∙◌, ap}
+use mathlib.Core.Path.{◌≡◌, refl, sym, ◌∙◌, ap, subst}
 use mathlib.Core.List.{List}
-use Prim.Native.Nat.{ℕ, suc, ◌+◌, ◌≤◌, ◌<◌}
+use Prim.Native.Nat.{ℕ, suc, ◌+◌, ◌-◌, ◌≤◌, ◌<◌}
 use native.Mathlib.Numerals.{add-one}
 use native.Mathlib.Omega.{arith}
 use lib.Dec.{T}
@@ -10,7 +10,7 @@ use lib.ListN.{length, get_or}
 use mir.Syntax.{w32, w64}
 use mir.Val.{SFits, to_z, of_z}
 use mir.Facts.{to_z-of_z}
-use Rattle.integers.specs.Filled.{begun-none, begun-same, begun_more, begun_all}
+use Rattle.integers.specs.Filled.{Begun, begun-none, begun-same, begun_more, begun_all}
 use Rattle.model.specs.Ranges as Ranges
 use Rattle.model.specs.Ranges.{displacement_ok}
 use Rattle.model.specs.Setup.{L, M, S, points}
@@ -21,7 +21,6 @@ use Rattle.motion.specs.Weighted.{weighted, placed, StringRanges}
 use Rattle.motion.specs.InRange.{displacement, displacement-read, newer-spans, older-spans, some-point, most-points}
 use Rattle.motion.specs.Linear.{weighted-point, weighted-past}
 use Rattle.motion.proofs.weighted.weighted.Goals as goal
-use Rattle.motion.proofs.weighted.weighted.Goals.{After-loop-i, Start}
 
 module _ {s : Setup} {u v : List ℤ} (h : StringRanges s u v) where
   -- `weigh` at the point i + 1 gives what the weighted string has there
@@ -30,149 +29,88 @@ module _ {s : Setup} {u v : List ℤ} (h : StringRanges s u v) where
       → to_z w64 (of_z w64 r) ≡ at (weighted s u v) (i + 1)
   weighs i l e₁ e₂ e₃ e₄ f e = to_z-of_z f ∙ e ∙ rw (e₁, e₂, e₃, e₄, add-one) (sym (weighted-point s (newer-spans h) (older-spans h) i l))
 
--- the arguments
-module _ (c : Start) where
-  abbrev s : Setup
-  s = c.args.setup
-
-  abbrev u : List ℤ
-  u = c.args.newer.now
-
-  abbrev v : List ℤ
-  v = c.args.older.now
-
-  ranges : StringRanges s u v
-  ranges = c.requires
-
   read-newer : (k : ℕ) → to_z w32 (of_z w32 (get_or u k (pos 0))) ≡ at u (suc k)
-  read-newer k = displacement-read u ranges.newer k
+  read-newer k = displacement-read u h.newer k
 
   read-older : (k : ℕ) → to_z w32 (of_z w32 (get_or v k (pos 0))) ≡ at v (suc k)
-  read-older k = displacement-read v ranges.older k
+  read-older k = displacement-read v h.older k
 
   displaced : (left k : ℕ) → to_z w32 left ≡ at u k → T (displacement_ok (to_z w32 left))
-  displaced left k e = rw e (displacement u ranges.newer k)
+  displaced left k e = rw e (displacement u h.newer k)
 
   newer-ok : (k : ℕ) → T (displacement_ok (to_z w32 (of_z w32 (get_or u k (pos 0)))))
-  newer-ok k = rw (read-newer k) (displacement u ranges.newer (suc k))
+  newer-ok k = rw (read-newer k) (displacement u h.newer (suc k))
 
   older-ok : (k : ℕ) → T (displacement_ok (to_z w32 (of_z w32 (get_or v k (pos 0)))))
-  older-ok k = rw (read-older k) (displacement v ranges.older (suc k))
+  older-ok k = rw (read-older k) (displacement v h.older (suc k))
 
-  inside : (i : ℕ) → i < length u → (i < points s) × (i < length v) × (i + 1 < 129)
-  inside i h = let e = ranges.newer-length in let e' = ranges.older-length in let m = most-points ranges in (omega arith, omega arith, omega arith)
+  inside : {i : ℕ} → i < length u → (i < points s) × (i < length v) × (i + 1 < 129)
+  inside l = let e = h.newer-length in let e' = h.older-length in let m = most-points h in (omega arith, omega arith, omega arith)
 
   some : 1 ≤ length u
-  some = let e = ranges.newer-length in let m = some-point ranges in omega arith
+  some = let e = h.newer-length in let m = some-point h in omega arith
+
+  -- the last point, whose right neighbour is 0
+  end-inside : (length u - 1 < length u) × (length u - 1 < points s) × (length u - 1 < length v) × (length u - 1 + 1 < 129)
+  end-inside = let k = some in let l : length u - 1 < length u = omega arith in let j = inside l in (l, j.0, j.1, j.2)
+
+  end-right : pos 0 ≡ at u (suc (suc (length u - 1)))
+  end-right = let k = some in let e : suc (length u - 1) ≡ points s = omega (arith, h.newer-length) in sym (rw e (at-past (newer-spans h)))
+
+pub overflow_sub-last : goal.overflow_sub-last
+overflow_sub-last c = some c.requires
 
 pub loop-i-init : goal.loop-i-init
-loop-i-init c = (omega arith, refl, begun-same refl begun-none)
+loop-i-init c = (refl, begun-same refl begun-none)
 
--- a turn
 pub weigh-requires : goal.weigh-requires
 weigh-requires c =
-    let l = c.before.before.before.before in
-    let a = l.before in
-    ((ranges a).setup, displaced a l.loop-i.left-bits l.loop-i.i l.loop-i.invariant.1, newer-ok a l.loop-i.i, newer-ok a (l.loop-i.i + 1), older-ok a l.loop-i.i)
+    let h = c.requires in
+    let i = c.loop-i.i in
+    (h.setup, displaced h c.loop-i.left-bits i c.loop-i.invariant.0, newer-ok h i, newer-ok h (i + 1), older-ok h i)
 
 pub loop-i-preserved : goal.loop-i-preserved
 loop-i-preserved c =
-    let l = c.before.before.before.before.before in
-    let a = l.before in
-    let i = l.loop-i.i in
-    let k = inside a i (omega arith) in
-    let right : to_z w32 (of_z w32 (get_or (u a) (i + 1) (pos 0))) ≡ at (u a) (suc (suc i)) = read-newer a (i + 1) ∙ ap (λ j. get_or (u a) j (pos 0)) (add-one i) in (
-      omega arith,
-      read-newer a i ∙ ap (at (u a)) (sym (add-one i)),
-      begun_more k.2 l.loop-i.invariant.2 (weighs (ranges a) i k.0 l.loop-i.invariant.1 (read-newer a i) right (read-older a i) (record { sfits = c.weigh.type_inv }) c.weigh.ensures),
+    let h = c.requires in
+    let i = c.loop-i.i in
+    let u = c.args.state.newer.now in
+    let k = inside h {i = i} (let l = c.loop-i-test.true in omega arith) in
+    let right : to_z w32 (of_z w32 (get_or u (i + 1) (pos 0))) ≡ at u (suc (suc i)) = read-newer h (i + 1) ∙ ap (λ j. get_or u j (pos 0)) (add-one i) in (
+      read-newer h i ∙ ap (at u) (sym (add-one i)),
+      begun_more k.2 c.loop-i.invariant.1 (weighs h i k.0 c.loop-i.invariant.0 (read-newer h i) right (read-older h i) (record { sfits = c.weigh.type_inv }) c.weigh.ensures),
     )
-
--- the last point, whose right neighbour is 0
-last-point : (c : After-loop-i) → (let l = c.before in (l.loop-i.i < length (u l.before)) × (l.loop-i.i < length (v l.before)) × (l.loop-i.i + 1 < 129))
-last-point c =
-    let l = c.before in
-    let h = some l.before in
-    let k : l.loop-i.i < length (u l.before) = omega arith in
-    let j = inside l.before l.loop-i.i k in
-    (k, j.1, j.2)
-
-pub returns : goal.returns
-unfolding placed
-returns c =
-    let l = c.before.before.before.before in
-    let a = l.before in
-    let i = l.loop-i.i in
-    let h = some a in
-    let k = inside a i (omega arith) in
-    let e = (ranges a).newer-length in
-    let end : suc i ≡ points (s a) = omega arith in
-    let right : pos 0 ≡ at (u a) (suc (suc i)) = sym (rw end (at-past (newer-spans (ranges a)))) in
-    begun_all (λ j q. weighted-past (s a) (newer-spans (ranges a)) (older-spans (ranges a)) j (omega arith))
-    (begun_more k.2 l.loop-i.invariant.2 (weighs (ranges a) i k.0 l.loop-i.invariant.1 (read-newer a i) right (read-older a i) (record { sfits = c.weigh-2.type_inv }) c.weigh-2.ensures))
 
 pub weigh-requires-2 : goal.weigh-requires-2
 unfolding displacement_ok Ranges.inside
 weigh-requires-2 c =
-    let l = c.before.before.before in
-    let a = l.before in
-    ((ranges a).setup, displaced a l.loop-i.left-bits l.loop-i.i l.loop-i.invariant.1, newer-ok a l.loop-i.i, tt, older-ok a l.loop-i.i)
+    let h = c.requires in
+    let i = length c.args.state.newer.now - 1 in
+    let e : c.loop-i.i ≡ i = omega (arith, c.loop-i.auto.i-end, c.loop-i-test.false) in
+    (h.setup, displaced h c.loop-i.left-bits i (rw (← e) c.loop-i.invariant.0), newer-ok h i, tt, older-ok h i)
 
-pub overflow_sub-last : goal.overflow_sub-last
-overflow_sub-last c = some c
-
-pub offset_bounds-newer-i : goal.offset_bounds-newer-i
-offset_bounds-newer-i c = omega arith
-
-pub bounds-newer-i : goal.bounds-newer-i
-bounds-newer-i c = omega arith
-
-pub overflow_add-i : goal.overflow_add-i
-overflow_add-i c = omega arith
-
-pub offset_bounds-newer-i-in-loop-i : goal.offset_bounds-newer-i-in-loop-i
-offset_bounds-newer-i-in-loop-i c = omega arith
-
-pub bounds-newer-i-in-loop-i : goal.bounds-newer-i-in-loop-i
-bounds-newer-i-in-loop-i c = omega arith
-
-pub offset_bounds-older-i : goal.offset_bounds-older-i
-offset_bounds-older-i c = omega arith
-
-pub bounds-older-i : goal.bounds-older-i
-bounds-older-i c = let a = c.before.before.before in (inside a.before a.loop-i.i (omega arith)).1
-
-pub overflow_add-out : goal.overflow_add-out
-overflow_add-out c = omega arith
-
-pub offset_bounds-out-i : goal.offset_bounds-out-i
-offset_bounds-out-i c = omega arith
+pub returns : goal.returns
+unfolding placed
+returns c =
+    let h = c.requires in
+    let s = c.args.setup in
+    let u = c.args.state.newer.now in
+    let i = length u - 1 in
+    let k = end-inside h in
+    let one = some h in
+    let n = h.newer-length in
+    let e : c.loop-i.i ≡ i = omega (arith, c.loop-i.auto.i-end, c.loop-i-test.false) in
+    begun_all (λ j q. weighted-past s (newer-spans h) (older-spans h) j (omega arith))
+    (begun_more k.3 (subst (λ (i : ℕ). Begun (pos 0) 129 (at (weighted s u c.args.state.older.now)) (i + 1) c.loop-i.out) e c.loop-i.invariant.1)
+    (weighs h i k.1 (subst (λ (i : ℕ). to_z w32 c.loop-i.left-bits ≡ at u i) e c.loop-i.invariant.0) (read-newer h i) (end-right h) (read-older h i) (record { sfits = c.weigh-2.type_inv }) c.weigh-2.ensures))
 
 pub bounds-out-i : goal.bounds-out-i
-bounds-out-i c = let a = c.before.before.before.before.before in (inside a.before a.loop-i.i (omega arith)).2
+bounds-out-i c = (inside c.requires {i = c.loop-i.i} (let l = c.loop-i-test.true in omega arith)).2
 
-pub overflow_add-i-in-loop-i : goal.overflow_add-i-in-loop-i
-overflow_add-i-in-loop-i c = omega arith
+pub bounds-newer-last : goal.bounds-newer-last
+bounds-newer-last c = (end-inside c.requires).0
 
-pub loop-i-smaller : goal.loop-i-smaller
-loop-i-smaller c = omega arith
+pub bounds-older-last : goal.bounds-older-last
+bounds-older-last c = (end-inside c.requires).2
 
-pub offset_bounds-newer-i-2 : goal.offset_bounds-newer-i-2
-offset_bounds-newer-i-2 c = let k = last-point c in omega arith
-
-pub bounds-newer-i-2 : goal.bounds-newer-i-2
-bounds-newer-i-2 c = (last-point c).0
-
-pub offset_bounds-older-i-2 : goal.offset_bounds-older-i-2
-offset_bounds-older-i-2 c = let k = last-point c.before in omega arith
-
-pub bounds-older-i-2 : goal.bounds-older-i-2
-bounds-older-i-2 c = (last-point c.before).1
-
-pub overflow_add-out-2 : goal.overflow_add-out-2
-overflow_add-out-2 c = let k = last-point c.before.before.before in omega arith
-
-pub offset_bounds-out-i-2 : goal.offset_bounds-out-i-2
-offset_bounds-out-i-2 c = let k = last-point c.before.before.before in omega arith
-
-pub bounds-out-i-2 : goal.bounds-out-i-2
-bounds-out-i-2 c = (last-point c.before.before.before).2
+pub bounds-out-last : goal.bounds-out-last
+bounds-out-last c = (end-inside c.requires).3

@@ -1,7 +1,5 @@
 -- The loop's invariant: the points below index i are laid, in both buffers.
-use mathlib.Core.Bool.{cond}
-use Prim.Native.Nat.{suc}
-use lib.IntN.{pos}
+use Rattle.std.specs.Prelude.{cond, suc, pos}
 use Rattle.integers.specs.Filled.{Filled}
 use Rattle.model.specs.Differences.{at}
 use Rattle.model.specs.Neck.{fret_at}
@@ -9,5 +7,5 @@ use Rattle.neck.proofs.laying.write_neck.Given as goal
 
 abbrev pub invariant-loop-i : goal.invariant-loop-i
 invariant-loop-i l =
-    Filled (pos 0) l.points (λ k. cond (fret_at l.frets (suc k)) l.tip (at l.board (suc k))) l.i l.heights
-    × Filled 0 l.points (λ k. cond (fret_at l.frets (suc k)) l.fret_stiffness l.board_stiffness) l.i l.stiffness
+    Filled (pos 0) l.points (λ k. cond (fret_at l.plan.frets.now (suc k)) l.plan.tip (at l.plan.board.now (suc k))) l.i l.heights
+    × Filled 0 l.points (λ k. cond (fret_at l.plan.frets.now (suc k)) l.plan.fret_stiffness l.plan.board_stiffness) l.i l.stiffness

@@ -1,14 +1,8 @@
--- The loop's invariant: the test of the whole list is `ok` and the test of what is left.
-use mathlib.Core.Path.{◌≡◌, refl}
-use mathlib.Core.Bool.{true, ◌&&◌, and_assoc, and-true}
-use mathlib.Core.List.{List, [], ◌∷◌}
-use Prim.Native.Nat.{ℕ, suc, ◌+◌, ◌≤◌, ◌<◌}
-use native.Mathlib.Numerals.{add-one}
-use native.Mathlib.Omega.{arith}
-use lib.Dec.{ltb}
-use lib.ListN.{length, get_or, drop, length-drop}
-use lib.Seq.{drop-cons}
-use Rattle.integers.specs.Scan.{more, over}
+-- Where the last place is reached, no pair of neighbours is left.
+use Rattle.std.proofs.Common.{◌≡◌, ◌+◌, ◌-◌, ◌≤◌, ◌<◌, ℕ, suc, refl, length, List, [], ◌∷◌, true, arith, drop, length-drop, drop-cons, add-one, get_or, ◌∙◌, ap, subst}
+use Rattle.std.specs.Prelude.{◌&&◌, ltb}
+use Rattle.std.proofs.Math.Bool.{and_assoc, and-true}
+use Rattle.integers.specs.Scan.{Scanned, more, over}
 use Rattle.model.specs.Neck.{increasing}
 use Rattle.ranges.specs.Scan.{none_yet}
 use Rattle.ranges.proofs.places.increasing.Goals as goal
@@ -27,35 +21,17 @@ module _ (xs : List ℕ) (i : ℕ) where
       go (y ∷ []) l = refl
       go (y ∷ z ∷ ys) l = absurd (omega arith)
 
+pub loop-i-init : goal.loop-i-init
+loop-i-init c = none_yet
+
 pub loop-i-preserved : goal.loop-i-preserved
-loop-i-preserved c = let l = c.before.before.before.before in (omega arith, more l.loop-i.invariant.1 and_assoc _ (next l.args.frets.now l.loop-i.i (omega arith)))
+loop-i-preserved c =
+    let l = c.loop-i in
+    let xs = c.args.frets.now in
+    let before : l.i - 1 + 1 ≡ l.i = omega (arith, l.auto.i) in
+    let after : l.i - 1 + 1 ≡ l.i + 1 - 1 = omega (arith, l.auto.i) in
+    let pair = next xs (l.i - 1) (omega (arith, l.auto.i, c.loop-i-test.true)) ∙ ap (λ (k : ℕ). ltb (get_or xs (l.i - 1) 0) (get_or xs k 0) && increasing (drop (l.i - 1 + 1) xs)) before in
+    subst (λ (k : ℕ). Scanned ◌&&◌ increasing xs (l.ok && ltb (get_or xs (l.i - 1) 0) (get_or xs l.i 0)) k) after (more l.invariant and_assoc _ pair)
 
 pub returns : goal.returns
-returns c = let l = c.before in over l.loop-i.invariant.1 (and-true _) (past l.args.frets.now l.loop-i.i (omega arith))
-
-pub loop-i-init : goal.loop-i-init
-loop-i-init c = (omega arith, none_yet)
-
-pub overflow_add-i : goal.overflow_add-i
-overflow_add-i c = omega arith
-
-pub offset_bounds-frets-i : goal.offset_bounds-frets-i
-offset_bounds-frets-i c = omega arith
-
-pub bounds-frets-i : goal.bounds-frets-i
-bounds-frets-i c = omega arith
-
-pub overflow_add-ok : goal.overflow_add-ok
-overflow_add-ok c = omega arith
-
-pub offset_bounds-frets-i-in-loop-i : goal.offset_bounds-frets-i-in-loop-i
-offset_bounds-frets-i-in-loop-i c = omega arith
-
-pub bounds-frets-i-in-loop-i : goal.bounds-frets-i-in-loop-i
-bounds-frets-i-in-loop-i c = omega arith
-
-pub overflow_add-i-in-loop-i : goal.overflow_add-i-in-loop-i
-overflow_add-i-in-loop-i c = omega arith
-
-pub loop-i-smaller : goal.loop-i-smaller
-loop-i-smaller c = omega arith
+returns c = over c.loop-i.invariant (and-true _) (past c.args.frets.now (c.loop-i.i - 1) (omega arith))

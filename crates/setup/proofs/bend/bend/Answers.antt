@@ -1,5 +1,5 @@
 -- `bend` meets its contract: the changed setup is examined.
-use mathlib.Core.Path.{◌∙◌, ap}
+use Rattle.std.proofs.Common.{◌∙◌, ap}
 use Rattle.model.specs.Setup.{setup}
 use Rattle.model.specs.Changes.{bend}
 use Rattle.setup.proofs.bend.bend.Goals as goal

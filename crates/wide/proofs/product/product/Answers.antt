@@ -57,31 +57,15 @@ module _ (k : Start) where
 pub raised-requires : goal.raised-requires
 raised-requires k = rw (high_is k) (wide (high-within k) tt)
 
-pub plus-requires : goal.plus-requires
-plus-requires c =
-    let k = c.before.before in (
-      rw (c.raised.ensures, high_is k) (wide (high-within k ⟨*⟩ num (2 ^ 24)) tt),
-      rw (c.widened.ensures, low_is k) (wide (low-within k) tt),
-    )
-
 pub returns : goal.returns
 returns c =
     let k = c.before.before.before in
-    c.plus.ensures
-    ∙ ap₂ (λ x y. x +ℤ y) (c.raised.ensures ∙ ap (λ z. z *ℤ pos (2 ^ 24)) (high_is k)) (c.widened.ensures ∙ low_is k ∙ ap (λ z. a k *ℤ z) (sym (low k).1.0))
+    c.add.ensures
+    ∙ ap₂ (λ x y. x +ℤ y) (c.raised.ensures ∙ ap (λ z. z *ℤ pos (2 ^ 24)) (high_is k)) (c.from.ensures ∙ low_is k ∙ ap (λ z. a k *ℤ z) (sym (low k).1.0))
     ∙ solve 3 (λ a b h. a ⊗ h ⊗ # (2 ^ 24) ⊕ a ⊗ (b ⊖ h ⊗ # (2 ^ 24)) ≐ a ⊗ b) tt (a k) (b k) (high k)
-
-pub overflow_mul-lower : goal.overflow_mul-lower
-overflow_mul-lower k = fits (ρ k) w64 (upper ⊠ ♯ (2 ^ 24)) tt
-
-pub overflow_sub-lower : goal.overflow_sub-lower
-overflow_sub-lower k = fits (ρ k) w64 rest tt
 
 pub overflow_mul-a : goal.overflow_mul-a
 overflow_mul-a k = fits (ρ k) w64 (var 0 ⊠ upper) tt
 
 pub overflow_mul-a-2 : goal.overflow_mul-a-2
 overflow_mul-a-2 c = rw (factors c.before) (Size.fits (low-within c.before) tt)
-
-pub widened-requires : goal.widened-requires
-widened-requires c = rw (low_is c.before) (low-within c.before)

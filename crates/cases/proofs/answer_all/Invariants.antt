@@ -1,9 +1,0 @@
--- Each line ends after it starts.
-use Rattle.std.proofs.Common.{◌-◌, length}
-use Rattle.cases.proofs.answer_all.Given as goal
-
-abbrev pub invariant-loop-at : goal.invariant-loop-at
-invariant-loop-at l = Unit {0}
-
-abbrev pub decreases-loop-at : goal.decreases-loop-at
-decreases-loop-at l = length l.text - l.at
