@@ -11,7 +11,7 @@ use crate::frames::{forces_at, write_frame};
 use model::{Lent, Neck, Played, Setup};
 use step::turn::step_ready;
 
-// Steps a voice that is ready, until the forces end or a step is refused.
+// Steps a voice that is ready, until the forces end or a step is refused. `count` is raised with each accepted step.
 pub fn play(
     setup: Setup,
     neck: Neck,
@@ -25,9 +25,13 @@ pub fn play(
         ≡ Blocks.play setup (the_neck neck.entry) (the_lent lent.old) (pairs forces.now) samples.old }
 {
     let steps = forces.len() / 2;
-    for count in 0..steps {
+    let mut count = 0;
+    while count < steps {
         match step_ready(setup, neck, lent, forces_at(forces, count)) {
-            Ok(frame) => write_frame(frame, samples, count),
+            Ok(frame) => {
+                write_frame(frame, samples, count);
+                count += 1;
+            }
             Err(refusal) => {
                 return Played {
                     count,
@@ -37,7 +41,7 @@ pub fn play(
         }
     }
     Played {
-        count: steps,
+        count,
         stopped: None,
     }
 }

@@ -37,12 +37,8 @@ pub fn finger_moves(
     let pull = 2 * gradient * (finger.contact as i64);
     let change = (finger.newer as i64) - (finger.older as i64);
     let system = System {
-        a11: factor + square,
-        a12: -square,
-        a21: -square,
-        a22: mass + square,
-        b1: side - pull,
-        b2: 2 * mass * change + (force as i64) + pull,
+        matrix: [[factor + square, -square], [-square, mass + square]],
+        right: [side - pull, 2 * mass * change + (force as i64) + pull],
     };
     let solution = system.solve();
     Moves {

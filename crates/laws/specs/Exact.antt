@@ -9,7 +9,7 @@ use Rattle.std.proofs.Math.Facts.{and_yes, T_not-not}
 use Rattle.integers.specs.Floats.{negative}
 use Rattle.integers.proofs.Floats.{fraction-exact}
 use Rattle.model.specs.Ranges.{inside, all, height_ok, displacement_ok}
-use Rattle.model.specs.Refusal.{Rule, Answer, accepted, refused}
+use Rattle.model.specs.Refusal.{Rule, accepted}
 use Rattle.model.specs.Setup.{setup_rules}
 use Rattle.model.specs.Differences.{at}
 use Rattle.model.specs.State.{Lent, newest, state_of, Neck, Forces}
@@ -20,7 +20,7 @@ use Rattle.model.specs.Answers.{reading_result}
 use Rattle.model.specs.declared.Setup.{Setup}
 use Rattle.model.specs.declared.Frame.{Frame}
 use Rattle.model.specs.declared.Reading.{Reading}
-use Rattle.model.specs.declared.Reading.TheVariants.{Free, Pressed}
+use Rattle.model.specs.declared.Reading.TheVariants.{Free, Pressed, Refused}
 use Rattle.promises.specs.Promises.{Passed, Refuses, Frames, Shows, shown, Readings}
 use Rattle.laws.specs.Refusals.{fails, at_all, by-table}
 use Rattle.laws.specs.Accepted.{state_made, step-accepted, accepted-step}
@@ -69,8 +69,8 @@ module _ (s : Setup) (heights first second : List ℤ) (turn i : ℕ) where
   rules : List Rule
   rules = reading_rules s heights first second turn i
 
-  value : Bool → Answer Reading
-  value b = accepted (cond b (Pressed (fraction binary64 u) (fraction binary64 d)) (Free (fraction binary64 u)))
+  value : Bool → Reading
+  value b = cond b (Pressed (fraction binary64 u) (fraction binary64 d)) (Free (fraction binary64 u))
 
   -- what is shown, by the test b on the depth
   abbrev numbers : Bool → List ℤ
@@ -95,7 +95,7 @@ module _ (s : Setup) (heights first second : List ℤ) (turn i : ℕ) where
 
   holds : let answer = reading_result (reading s heights first second turn i) in Refuses rules answer × Shows (shown u d) answer
   unfolding reading string u d rules value reading_rules setup_rules
-  holds = by-table rules tt (value (lt_z (pos 0) d)) refused (λ (r : Answer Reading). Refuses rules (reading_result r) × Shows (shown u d) (reading_result r)) (λ h. shows h (lt_z (pos 0) d) refl) (λ n h. ((omega arith, h), tt))
+  holds = by-table rules tt (value (lt_z (pos 0) d)) Refused (λ (r : Reading). Refuses rules (reading_result r) × Shows (shown u d) (reading_result r)) (λ h. shows h (lt_z (pos 0) d) refl) (λ n h. ((omega arith, h), tt))
 
 pub readings : Readings
 unfolding string u d rules

@@ -11,7 +11,7 @@
 --   booked bend   record { answer = answer_of result; book = columns book } ≡ booked_bend s v (columns book₀) L'
 --   block     block_result result v samples ≡ block s neck v₀ forces samples₀
 --   newest    result ≡ newest turn first second, of the references themselves
---   reading   answer_of result ≡ reading s heights first second turn place; `reading_result` gives its number and values
+--   reading   result ≡ reading s heights first second turn place; `reading_result` gives its number and values
 use Rattle.std.specs.Prelude.{List, [], ◌∷◌, ℕ, ℤ, Float, Result, Ok, Err}
 use Rattle.model.specs.Refusal.{Answer, accepted, refused, number, answer_of, stopped_by}
 use Rattle.model.specs.State.{Lent}
@@ -27,7 +27,7 @@ use Rattle.model.specs.declared.Started.{Started}
 use Rattle.model.specs.declared.Stepped.{Stepped}
 use Rattle.model.specs.declared.Played.{Played}
 use Rattle.model.specs.declared.Reading.{Reading}
-use Rattle.model.specs.declared.Reading.TheVariants.{Free, Pressed}
+use Rattle.model.specs.declared.Reading.TheVariants.{Free, Pressed, Refused}
 
 abbrev pub neck_result : Result (Unit {0}) Refusal → List ℤ → List ℕ → NeckResult
 neck_result r heights stiffness = record { answer = answer_of r; heights = heights; stiffness = stiffness }
@@ -51,7 +51,7 @@ abbrev pub block_result : Played → Lent → List Float → BlockResult
 block_result r v samples = record { count = r.count; refusal = stopped_by r.stopped; lent = v; samples = samples }
 
 -- the displacement of a free place; the displacement and the depth of a pressed one
-abbrev pub reading_result : Answer Reading → Answer (List Float)
-reading_result (accepted (Free u)) = accepted (u ∷ [])
-reading_result (accepted (Pressed u depth)) = accepted (u ∷ depth ∷ [])
-reading_result (refused n) = refused n
+abbrev pub reading_result : Reading → Answer (List Float)
+reading_result (Free u) = accepted (u ∷ [])
+reading_result (Pressed u depth) = accepted (u ∷ depth ∷ [])
+reading_result (Refused n) = refused n

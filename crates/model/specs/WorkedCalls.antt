@@ -23,7 +23,7 @@ use Rattle.model.specs.Reading.{reading, reading_rules}
 use Rattle.model.specs.Answers.{neck_result, start_result, step_result, block_result, reading_result}
 use Rattle.model.specs.Bench.{finger, resting_finger, one_point, forces}
 use Rattle.model.specs.declared.Setup.{Setup}
-use Rattle.model.specs.declared.Reading.TheVariants.{Free, Pressed}
+use Rattle.model.specs.declared.Reading.TheVariants.{Free, Pressed, Refused}
 use Rattle.model.specs.declared.refusal.Refusal.TheVariants as Refusal
 use Rattle.model.specs.Worked.{worked_setup, worked_neck, before, state_after, flat}
 
@@ -106,13 +106,13 @@ not-played-are = refl
 
 -- place 1 is pressed to the depth −5 + 37, place 2 is free, and so is a string that just touches
 readings-are : reading worked_setup worked_neck.heights lent.first lent.second 7 1 ∷ reading worked_setup worked_neck.heights lent.first lent.second 7 2 ∷ reading worked_setup (replicate 4 (neg_ℤ (pos 37))) lent.first lent.second 7 1 ∷ []
-    ≡ accepted (Pressed (over true 37) (fin false 1 (negsuc 14))) ∷ accepted (Free (fin false 11 (negsuc 18))) ∷ accepted (Free (over true 37)) ∷ []
+    ≡ Pressed (over true 37) (fin false 1 (negsuc 14)) ∷ Free (fin false 11 (negsuc 18)) ∷ Free (over true 37) ∷ []
 unfolding lent over reading reading_rules setup_rules place_ok length_ok between inside height_ok displacement_ok fraction round
 readings-are = refl
 
 -- refused: a place past the string; a height and a newest displacement out of range elsewhere than at the place read
 not-read-are : reading worked_setup worked_neck.heights lent.first lent.second 7 5 ∷ reading worked_setup (neg_ℤ (pos 5) ∷ pos 0 ∷ pos 0 ∷ pos 1 ∷ []) lent.first lent.second 7 1
-    ∷ reading worked_setup worked_neck.heights lent.first (pos 0 ∷ pos 0 ∷ pos 0 ∷ pos 1048577 ∷ []) 7 1 ∷ [] ≡ refused 4 ∷ refused 7 ∷ refused 11 ∷ []
+    ∷ reading worked_setup worked_neck.heights lent.first (pos 0 ∷ pos 0 ∷ pos 0 ∷ pos 1048577 ∷ []) 7 1 ∷ [] ≡ Refused 4 ∷ Refused 7 ∷ Refused 11 ∷ []
 unfolding lent reading reading_rules setup_rules place_ok length_ok between inside height_ok displacement_ok
 not-read-are = refl
 
@@ -143,5 +143,5 @@ answers-are :
     × (step_result 7 resting_finger (accepted record { turn = 0; finger = finger (pos 4) (pos 5) (pos 6); frame = record { bridge = nan; neck = nan } }) (pos 1 ∷ []) (pos 2 ∷ []) (pos 3 ∷ [])
     ≡ record { answer = accepted record { bridge = nan; neck = nan }; lent = one_point (pos 1) (pos 2) (pos 3) 0 (finger (pos 4) (pos 5) (pos 6)) })
     × (block_result record { count = 5; stopped = Some Refusal.NewDisplacement } (one_point (pos 1) (pos 2) (pos 3) 1 resting_finger) (nan ∷ []) ≡ record { count = 5; refusal = 13; lent = one_point (pos 1) (pos 2) (pos 3) 1 resting_finger; samples = nan ∷ [] })
-    × (reading_result (accepted (Free nan)) ≡ accepted (nan ∷ [])) × (reading_result (accepted (Pressed nan (over false 1))) ≡ accepted (nan ∷ over false 1 ∷ [])) × (reading_result (answer_of (Err Refusal.Height)) ≡ refused 7)
+    × (reading_result (Free nan) ≡ accepted (nan ∷ [])) × (reading_result (Pressed nan (over false 1)) ≡ accepted (nan ∷ over false 1 ∷ [])) × (reading_result (Refused 7) ≡ refused 7)
 answers-are = (refl, refl, refl, refl, refl, refl, refl, refl, refl, refl, refl)

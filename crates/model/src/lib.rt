@@ -134,9 +134,11 @@ pub struct Played {
     pub stopped: Option<Refusal>,
 }
 
-// A place's newest displacement; where the string is pressed, its depth too; both divided by 1,048,576.
+// 01, 'Reading a place': a place's newest displacement; where the string is pressed, its depth too, both divided by 1,048,576; or the number
+// of the refusal. The case with the number is 01's form for a reading, where every other operation answers a `Result`.
 #[derive(Clone, Copy)]
 pub enum Reading {
     Free(f64),
     Pressed(f64, f64),
+    Refused(u32),
 }

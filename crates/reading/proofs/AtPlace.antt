@@ -1,13 +1,14 @@
 -- What a call that is not turned down finds at its place.
 use Rattle.std.specs.Prelude.{◌≡◌, List, [], ◌∷◌, ℕ, zero, suc, ◌-◌, ◌≤◌, T, ℤ, pos, length, get_or}
-use Rattle.std.proofs.Common.{sym, ◌∙◌, ap, ap₂, subst}
+use Rattle.std.proofs.Common.{sym, ◌∙◌, ap₂, subst}
 use Rattle.std.proofs.Math.Facts.{T_not-not}
 use Rattle.model.specs.Ranges.{all, inside, displacement_ok, height_ok}
 use Rattle.model.specs.Reading.{reading_of, string_rules, reading_rules, reading}
-use Rattle.model.specs.Refusal.{first_of, accepted, refused}
+use Rattle.model.specs.Refusal.{first_of}
 use Rattle.model.specs.Setup.{points, place_ok, places_rule, setup_rules}
 use Rattle.model.specs.State.{newest}
 use Rattle.model.specs.declared.Reading.{Reading}
+use Rattle.model.specs.declared.Reading.TheVariants.{Refused}
 use Rattle.model.specs.declared.Setup.{Setup}
 use Rattle.promises.specs.Promises.{Passed}
 use Rattle.laws.specs.Accepted.{between-yes, right-lengths}
@@ -51,16 +52,16 @@ module _ (s : Setup) (heights first second : List ℤ) (turn place : ℕ) (given
 
   -- what is shown of the numbers that stand there is the reading
   pub read-of : (u height : ℤ) (r : Reading) → u ≡ get_or string (place - 1) (pos 0) → height ≡ get_or heights (place - 1) (pos 0) → r ≡ reading_of u height
-      → accepted r ≡ reading s heights first second turn place
+      → r ≡ reading s heights first second turn place
   unfolding reading
   read-of u height r e h q =
-      ap accepted (q ∙ ap₂ reading_of (e ∙ sym (at-index string place at_point.0)) (h ∙ sym (at-index heights place at_point.0)))
-      ∙ made_by (reading_rules s heights first second turn place) _ refused (sym given)
+      q ∙ ap₂ reading_of (e ∙ sym (at-index string place at_point.0)) (h ∙ sym (at-index heights place at_point.0))
+      ∙ made_by (reading_rules s heights first second turn place) _ Refused (sym given)
 
 -- a table that gives a number
 module _ (s : Setup) (heights first second : List ℤ) (turn place : ℕ) where
-  pub refused-reading : (n : ℕ) → n ≡ first_of (reading_rules s heights first second turn place) → (n ≡ 0 → ⊥) → reading s heights first second turn place ≡ refused n
+  pub refused-reading : (n : ℕ) → n ≡ first_of (reading_rules s heights first second turn place) → (n ≡ 0 → ⊥) → reading s heights first second turn place ≡ Refused n
   unfolding reading
-  refused-reading n given above = sym (refused-by (reading_rules s heights first second turn place) _ refused n (sym given) above)
+  refused-reading n given above = sym (refused-by (reading_rules s heights first second turn place) _ Refused n (sym given) above)
 
 pub ruleset at_place = (number-not-zero, refused-reading, at_point, heights-long, string-long, displacement-ok, height-ok)

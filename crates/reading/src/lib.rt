@@ -7,7 +7,7 @@ pub mod shown;
 
 ghost use Rattle.std.specs.Prelude.{◌≡◌};
 ghost use Rattle.model.specs.Reading.{reading, reading_rules};
-ghost use Rattle.model.specs.Refusal.{first_of, answer_of, refusal_of};
+ghost use Rattle.model.specs.Refusal.{first_of, refusal_of};
 
 use crate::newest::newest;
 use crate::shown::shown;
@@ -18,7 +18,7 @@ use ranges::numbers::{Displacement, Height, all_hold};
 use ranges::places::place_ok;
 use setup::examine_setup;
 
-// Reads a place, or turns the call down.
+// Reads a place, or answers the number of its refusal.
 #[tactic(auto, using(crate::proofs::AtPlace::at_place))]
 pub fn read_place(
     setup: Setup,
@@ -27,13 +27,17 @@ pub fn read_place(
     second: &[i32],
     turn: u32,
     place: u32,
-) -> Result<Reading, Refusal>
-    ensures { answer_of result ≡ reading setup heights.now first.now second.now turn place }
+) -> Reading
+    ensures { result ≡ reading setup heights.now first.now second.now turn place }
 {
-    examine(setup, heights, first, second, turn, place)?;
-    let string = newest(first, second, turn);
-    let index = place as usize - 1;
-    Ok(shown(string[index], heights[index]))
+    match examine(setup, heights, first, second, turn, place) {
+        Ok(()) => {
+            let string = newest(first, second, turn);
+            let index = place as usize - 1;
+            shown(string[index], heights[index])
+        }
+        Err(refusal) => Reading::Refused(refusal.number()),
+    }
 }
 
 // Its refusal, if it has one. Both strings are measured, and only the newest is examined.

@@ -1,12 +1,23 @@
--- A two-by-two system and its solution as the code has them, and the sizes that the system of a step has.
-use Rattle.std.specs.Prelude.{List, [], ◌∷◌, ℕ, ◌^◌, ℤ, pos, ◌<ℤ◌}
+-- A two-by-two system held in arrays and its solution as the code has it, and the sizes that the system of a step has.
+use Rattle.std.specs.Prelude.{List, [], ◌∷◌, ℕ, ◌^◌, ℤ, pos, get_or, ◌<ℤ◌}
 use Rattle.integers.specs.Machine.{Within}
 use Rattle.model.specs.System.{System, det, rounded₁, rounded₂}
 use Rattle.rounding.specs.declared.system.System as Declared
 use Rattle.rounding.specs.declared.system.Solution.{Solution}
 
+-- by rows and right side
 abbrev pub system_of : Declared.System → System
-system_of t = record { a₁₁ = t.a11; a₁₂ = t.a12; a₂₁ = t.a21; a₂₂ = t.a22; b₁ = t.b1; b₂ = t.b2 }
+system_of t =
+    let row = get_or t.matrix 0 [] in
+    let next = get_or t.matrix 1 [] in
+    record {
+      a₁₁ = get_or row 0 (pos 0);
+      a₁₂ = get_or row 1 (pos 0);
+      a₂₁ = get_or next 0 (pos 0);
+      a₂₂ = get_or next 1 (pos 0);
+      b₁ = get_or t.right 0 (pos 0);
+      b₂ = get_or t.right 1 (pos 0);
+    }
 
 -- both parts of the solution, each rounded
 abbrev pub rounded : System → Solution

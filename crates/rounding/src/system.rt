@@ -4,15 +4,11 @@ ghost use Rattle.rounding.specs.Systems.{system_of, rounded, Solvable};
 
 use crate::quotient::nearest;
 
-// a11·x + a12·y = b1 and a21·x + a22·y = b2.
+// The rows of the matrix, and the right side: matrix·(x, y) = right.
 #[derive(Clone, Copy)]
 pub struct System {
-    pub a11: i64,
-    pub a12: i64,
-    pub a21: i64,
-    pub a22: i64,
-    pub b1: i64,
-    pub b2: i64,
+    pub matrix: [[i64; 2]; 2],
+    pub right: [i64; 2],
 }
 
 // x and y, each rounded.
@@ -28,9 +24,11 @@ impl System {
         requires { Solvable (system_of self) }
         ensures { result ≡ rounded (system_of self) }
     {
-        let det = self.a11 * self.a22 - self.a12 * self.a21;
-        let det1 = self.b1 * self.a22 - self.a12 * self.b2;
-        let det2 = self.a11 * self.b2 - self.b1 * self.a21;
+        let [[a11, a12], [a21, a22]] = self.matrix;
+        let [b1, b2] = self.right;
+        let det = a11 * a22 - a12 * a21;
+        let det1 = b1 * a22 - a12 * b2;
+        let det2 = a11 * b2 - b1 * a21;
         Solution {
             x: nearest(det1, det),
             y: nearest(det2, det),

@@ -12,7 +12,7 @@ use Rattle.model.specs.declared.Setup.{Setup}
 use Rattle.model.specs.declared.Finger.{Finger}
 use Rattle.model.specs.declared.Frame.{Frame}
 use Rattle.model.specs.declared.Reading.{Reading}
-use Rattle.model.specs.declared.Reading.TheVariants.{Free, Pressed}
+use Rattle.model.specs.declared.Reading.TheVariants.{Free, Pressed, Refused}
 use Rattle.rows.specs.declared.setup_row.SetupRow.{SetupRow}
 use Rattle.rows.specs.declared.changed_row.ChangedRow.{ChangedRow}
 use Rattle.rows.specs.declared.start_row.StartRow.{StartRow}
@@ -121,10 +121,10 @@ abbrev pub none : Float
 none = fraction binary64 (pos 0)
 
 -- pressed is 1 for a pressed place and 0 for any other; a free place has no depth
-abbrev pub reading_row : Answer Reading → ReadingRow
-reading_row (accepted (Free u)) = record { refusal = 0; pressed = 0; displacement = u; depth = none }
-reading_row (accepted (Pressed u depth)) = record { refusal = 0; pressed = 1; displacement = u; depth = depth }
-reading_row (refused n) = record { refusal = n; pressed = 0; displacement = none; depth = none }
+abbrev pub reading_row : Reading → ReadingRow
+reading_row (Free u) = record { refusal = 0; pressed = 0; displacement = u; depth = none }
+reading_row (Pressed u depth) = record { refusal = 0; pressed = 1; displacement = u; depth = depth }
+reading_row (Refused n) = record { refusal = n; pressed = 0; displacement = none; depth = none }
 
 -- count, refusal, turn and finger after a block
 abbrev pub block_row : BlockResult → BlockRow

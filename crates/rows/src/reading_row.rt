@@ -1,10 +1,8 @@
 // A reading for C.
 ghost use Rattle.std.specs.Prelude.{◌≡◌};
-ghost use Rattle.model.specs.Refusal.{answer_of};
 ghost use Rattle.rows.specs.Rows.{reading_row};
 
 use model::Reading;
-use model::refusal::Refusal;
 use samples::fractions::double;
 
 // The refusal; 1 where the string is pressed and 0 where it is free; the displacement, and the depth where it is pressed.
@@ -19,25 +17,25 @@ pub struct ReadingRow {
 
 // The row of an answer.
 #[tactic(auto, unfolding(model::specs::Ranges::displacement_ok, model::specs::Ranges::inside))]
-pub fn reading_row(answer: Result<Reading, Refusal>) -> ReadingRow
-    ensures { result ≡ reading_row (answer_of answer) }
+pub fn reading_row(answer: Reading) -> ReadingRow
+    ensures { result ≡ reading_row answer }
 {
     let none = double(0);
     match answer {
-        Ok(Reading::Free(displacement)) => ReadingRow {
+        Reading::Free(displacement) => ReadingRow {
             refusal: 0,
             pressed: 0,
             displacement,
             depth: none,
         },
-        Ok(Reading::Pressed(displacement, depth)) => ReadingRow {
+        Reading::Pressed(displacement, depth) => ReadingRow {
             refusal: 0,
             pressed: 1,
             displacement,
             depth,
         },
-        Err(refusal) => ReadingRow {
-            refusal: refusal.number(),
+        Reading::Refused(refusal) => ReadingRow {
+            refusal,
             pressed: 0,
             displacement: none,
             depth: none,

@@ -6,8 +6,8 @@ use Rattle.reading.proofs.read_place.Goals as goal
 abbrev read : List ℤ → ℕ → ℤ
 read xs place = to_z w32 (of_z w32 (get_or xs (place - 1) (pos 0)))
 
-pub returns : goal.returns
-returns c =
+pub returns-in-Ok : goal.returns-in-Ok
+returns-in-Ok c =
     let k = c.args in
     let u = read c.newest-string.result.now k.place in
-    read-of k.setup k.heights.now k.first.now k.second.now k.turn k.place c.in_ok-examine.ensures u (read k.heights.now k.place) c.shown.result (search rules) (search rules) c.shown.ensures
+    read-of k.setup k.heights.now k.first.now k.second.now k.turn k.place c.in-Ok.ensures u (read k.heights.now k.place) c.shown.result (search rules) (search rules) c.shown.ensures

@@ -40,6 +40,7 @@ loop-count-preserved c =
     record {
       same = search rules;
       playing = record {
+        most = omega (arith, c.loop-count-test.true);
         ready = ready-again next _ refl l.invariant.playing.ready;
         room = omega (arith, same, l.invariant.playing.room);
         rest = ap (λ samples. resumed c.args.setup (the_neck c.args.neck) c.args.forces.now (the_lent c.step_ready.new.lent) samples (l.count + 1)) made
@@ -50,5 +51,6 @@ loop-count-preserved c =
 pub returns-clause-played : goal.returns-clause-played
 returns-clause-played c =
     let l = c.loop-count in
-    let all : l.count ≡ length c.args.forces.now / 2 = omega (arith, c.loop-count-test.false, l.auto.count-end) in
-    sym (ended c.args.setup (the_neck c.args.neck) c.args.forces.now (the_lent l.lent) l.samples l.count all) ∙ l.invariant.playing.rest
+    let all : l.count ≡ length c.args.forces.now / 2 = omega (arith, c.loop-count-test.false, l.invariant.playing.most) in
+    ap (λ n. record { count = n; refusal = 0; lent = the_lent l.lent; samples = l.samples }) all
+    ∙ sym (ended c.args.setup (the_neck c.args.neck) c.args.forces.now (the_lent l.lent) l.samples l.count all) ∙ l.invariant.playing.rest
