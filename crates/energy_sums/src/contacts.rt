@@ -7,16 +7,13 @@ ghost use Rattle.energy_sums.specs.Contacts.{Contacts, cleared_contacts};
 
 use crate::lines::Line;
 use crate::squares::squares;
+use ranges::numbers::all_inside_i32;
 
-// No number is other than 0. The scan reads them all and has no early exit, so that the compiler takes several at once.
+// No number is other than 0.
 fn all_zero(numbers: &[i32]) -> bool
     ensures { result ≡ all (λ x. inside (pos 0) x (pos 0)) numbers.now }
 {
-    let mut zero = true;
-    for number in numbers {
-        zero &= *number == 0;
-    }
-    zero
+    all_inside_i32(numbers, 0, 0)
 }
 
 // Σ ψ². A string that touches nothing has no contact variable other than 0: a scan for that is quicker than the squares.

@@ -73,6 +73,21 @@ pub fn inside(number: i64, range: Range) -> bool
     (range.least as i64 <= number) & (number <= range.largest as i64)
 }
 
+// Every number lies from low to high.
+pub fn all_inside_i32(numbers: &[i32], low: i32, high: i32) -> bool
+    ensures { result ≡ all (λ x. inside low x high) numbers.now }
+{
+    let range = Range {
+        least: low,
+        largest: high,
+    };
+    let mut ok = true;
+    for x in numbers {
+        ok &= inside(*x as i64, range);
+    }
+    ok
+}
+
 // Every number is of the kind. The scan has no early exit, so that the compiler takes several numbers at once.
 pub fn all_hold<K: Kind>(numbers: &[i32]) -> bool
     ensures { result ≡ all K.ok numbers.now }

@@ -34,5 +34,5 @@ pub use reading::read_place;
 pub use model::refusal::Refusal;
 pub use model::{
     Book, Finger, FingerSetup, Forces, Frame, Lent, Neck, Plan, Played, Reading, Setup, Started,
-    Wide,
+    Stepped, Wide,
 };
