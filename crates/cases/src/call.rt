@@ -41,6 +41,9 @@ impl Operation {
     }
 }
 
+// How long an operation's name is at most.
+const LONGEST_NAME: usize = 11;
+
 // A line's call.
 #[derive(Clone, Copy)]
 pub struct Call<'a> {
@@ -51,12 +54,15 @@ pub struct Call<'a> {
 impl<'a> Call<'a> {
     // None where no operation has the name that stands before the first space.
     pub fn parse(line: &'a [u8]) -> Option<Call<'a>> {
-        let mut words = Pieces {
-            rest: line,
+        let end = line
+            .iter()
+            .take(LONGEST_NAME + 1)
+            .position(|byte| *byte == b' ')?;
+        let operation = Operation::parse(&line[..end])?;
+        let words = Pieces {
+            rest: &line[end + 1..],
             end: b' ',
         };
-        let name = words.next()?.strip_suffix(b" ")?;
-        let operation = Operation::parse(name)?;
         Some(Call {
             operation,
             arguments: Arguments { words },
@@ -81,11 +87,12 @@ pub struct Arguments<'a> {
 impl<'a> Arguments<'a> {
     // The next list; an empty one, with an empty label, if there is none.
     pub fn list(&mut self) -> List<'a> {
-        let numbers = self
+        let found = self
             .words
-            .take_while(|word| !starts_with_label(word))
-            .count();
-        let label = self.words.nth(numbers.min(MOST_NUMBERS)).unwrap_or(b"");
+            .by_ref()
+            .take(MOST_NUMBERS)
+            .find(|word| starts_with_label(word));
+        let label = found.or_else(|| self.words.next()).unwrap_or(b"");
         List {
             label,
             words: self.words,
@@ -113,7 +120,7 @@ impl<'a> List<'a> {
 
     // Writes the numbers to the front of the room, as many of them as fit there, and answers that part.
     pub fn read<'b, T: Number>(self, room: &'b mut [T]) -> &'b mut [T] {
-        let count = self.count().min(room.len());
+        let count = self.take(room.len()).count();
         let numbers = &mut room[..count];
         for (number, word) in numbers.iter_mut().zip(self) {
             *number = T::read(word);

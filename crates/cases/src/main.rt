@@ -2,6 +2,8 @@
 // A call is an operation's name, then each argument under its label, as whole numbers, a book by its words; a line that starts with '#' is printed as it is.
 #![tactic(auto)]
 
+ghost use Rattle.std.specs.Prelude.{◌≡◌, ◌≤◌, length};
+
 mod arguments;
 mod call;
 mod necks;
@@ -15,14 +17,10 @@ mod strings;
 
 use call::{Call, Operation};
 use pieces::Pieces;
-use std::io;
 use std::io::Read;
 
-// How much of the input is read.
-const MOST_BYTES: u64 = 1048576;
-
 // Answers a call.
-fn answer(rt: &impl Print, call: Call) -> io::Result<()> {
+fn answer(rt: &impl Print, call: Call) {
     let arguments = call.arguments;
     match call.operation {
         Operation::Setup => setups::answer_setup(rt, arguments),
@@ -39,31 +37,52 @@ fn answer(rt: &impl Print, call: Call) -> io::Result<()> {
     }
 }
 
-fn answer_or_print(rt: &impl Print, line: &[u8]) -> io::Result<()> {
+fn answer_or_print(rt: &impl Print, line: &[u8]) {
     if line.starts_with(b"#") {
-        return rt.write_all(line);
+        return printing::text(rt, line);
     }
     match Call::parse(line) {
-        Some(call) => answer(rt, call)?,
-        None => print!(rt; "no such operation")?,
+        Some(call) => answer(rt, call),
+        None => printing::text(rt, b"no such operation"),
     }
-    print!(rt; "\n")
+    printing::text(rt, b"\n");
 }
 
 // Answers every call of the text.
-fn answer_all(rt: &impl Print, text: &[u8]) -> io::Result<()> {
+fn answer_all(rt: &impl Print, text: &[u8]) {
     let lines = Pieces {
         rest: text,
         end: b'\n',
     };
     for line in lines {
-        answer_or_print(rt, line)?;
+        answer_or_print(rt, line);
     }
-    Ok(())
 }
 
-fn main(rt: HostRuntime) -> io::Result<()> {
-    let mut text = Vec::new(rt.alloc());
-    rt.reader().take(MOST_BYTES).read_to_end(&mut text)?;
-    answer_all(&rt, &text)
+// Reads until the room is full, the input ends or a read fails, and answers how many bytes were read.
+fn fill(input: &mut impl Read, room: &mut [u8]) -> usize
+    ensures { result ≤ length room.new }
+{
+    let mut filled = 0;
+    while filled < room.len() {
+        match input.read(&mut room[filled..]) {
+            Ok(0) => break,
+            Ok(count) => filled += count,
+            Err(_) => break,
+        }
+    }
+    filled
+}
+
+// Room for the text: so much of the input is read.
+fn text_room() -> [u8; 1048576]
+    ensures { 1048576 ≡ length result }
+{
+    [0; 1048576]
+}
+
+fn main(rt: HostRuntime) {
+    let mut space = text_room();
+    let filled = fill(&mut rt.stdin(), &mut space);
+    answer_all(&rt, &space[..filled]);
 }

@@ -2,14 +2,13 @@
 use crate::call::Arguments;
 use crate::report;
 use crate::room::MOST;
-use std::io;
 use voice::{Plan, lay_neck};
 
 // So many frets are read, which are more than a neck may have.
 const MOST_FRETS: usize = 30;
 
 // Setup, board, board_stiffness, frets, tip, fret_stiffness, heights, stiffness.
-pub fn answer_neck(rt: &impl Print, mut arguments: Arguments) -> io::Result<()> {
+pub fn answer_neck(rt: &impl Print, mut arguments: Arguments) {
     let mut board_room = [0; MOST];
     let mut frets_room = [0; MOST_FRETS];
     let mut heights_room = [0; MOST];
@@ -26,7 +25,7 @@ pub fn answer_neck(rt: &impl Print, mut arguments: Arguments) -> io::Result<()> 
     let heights = heights_list.read(&mut heights_room);
     let stiffness_list = arguments.list();
     let stiffness = stiffness_list.read(&mut stiffness_room);
-    report::number(rt, lay_neck(setup, plan, heights, stiffness).err())?;
-    report::list(rt, heights_list, heights)?;
-    report::list(rt, stiffness_list, stiffness)
+    report::number(rt, lay_neck(setup, plan, heights, stiffness).err());
+    report::list(rt, heights_list, heights);
+    report::list(rt, stiffness_list, stiffness);
 }

@@ -1,7 +1,6 @@
 // Room for the lists that a call lends.
 use crate::call::List;
 use crate::report;
-use std::io;
 use voice::{Finger, Lent};
 
 // So many numbers of a list are read, which are more than a string has points.
@@ -65,9 +64,9 @@ impl Strings<'_> {
     }
 
     // Prints what was lent, as it is now.
-    pub fn print(self, rt: &impl Print, lent: &Lent) -> io::Result<()> {
-        report::list(rt, self.first, lent.first)?;
-        report::list(rt, self.second, lent.second)?;
-        report::list(rt, self.contact, lent.contact)
+    pub fn print(self, rt: &impl Print, lent: &Lent) {
+        report::list(rt, self.first, lent.first);
+        report::list(rt, self.second, lent.second);
+        report::list(rt, self.contact, lent.contact);
     }
 }

@@ -2,20 +2,18 @@
 use crate::call::{Arguments, List};
 use crate::report;
 use crate::room::{MOST, NeckRoom, StringsRoom};
-use std::io;
 use voice::{
     Finger, Frame, Lent, Refusal, Setup, Started, fresh_start, play_block, step, step_booked,
 };
 
 // What a step answered, and what was lent to it.
-fn print_step(rt: &impl Print, answer: Result<Frame, Refusal>, lent: &Lent) -> io::Result<()> {
-    report::number(rt, answer.err())?;
+fn print_step(rt: &impl Print, answer: Result<Frame, Refusal>, lent: &Lent) {
+    report::number(rt, answer.err());
     if let Ok(frame) = answer {
-        report::turn_and_finger(rt, lent.turn, lent.finger)?;
-        print!(rt; " frame")?;
-        printing::samples(rt, &[frame.bridge, frame.neck])?;
+        report::turn_and_finger(rt, lent.turn, lent.finger);
+        printing::text(rt, b" frame");
+        printing::samples(rt, &[frame.bridge, frame.neck]);
     }
-    Ok(())
 }
 
 // Starts with the heights of a list.
@@ -31,22 +29,22 @@ fn start(setup: Setup, lent: &mut Lent, mut heights: List) -> Result<Started, Re
 }
 
 // A call of the fresh start: setup, first, second, contact, heights.
-pub fn answer_start(rt: &impl Print, mut arguments: Arguments) -> io::Result<()> {
+pub fn answer_start(rt: &impl Print, mut arguments: Arguments) {
     let mut room = StringsRoom::new();
     let setup = arguments.setup();
     let strings = arguments.strings();
     let mut lent = strings.lend(&mut room, 0, Finger::default());
     let answer = start(setup, &mut lent, arguments.list());
-    report::number(rt, answer.err())?;
+    report::number(rt, answer.err());
     if let Ok(started) = answer {
-        report::turn_and_finger(rt, started.turn, started.finger)?;
-        printing::book(rt, started.book)?;
+        report::turn_and_finger(rt, started.turn, started.finger);
+        printing::book(rt, started.book);
     }
-    strings.print(rt, &lent)
+    strings.print(rt, &lent);
 }
 
 // A call of step: setup, heights, stiffness, first, second, contact, turn, finger, forces.
-pub fn answer_step(rt: &impl Print, mut arguments: Arguments) -> io::Result<()> {
+pub fn answer_step(rt: &impl Print, mut arguments: Arguments) {
     let mut neck_room = NeckRoom::new();
     let mut room = StringsRoom::new();
     let setup = arguments.setup();
@@ -54,12 +52,12 @@ pub fn answer_step(rt: &impl Print, mut arguments: Arguments) -> io::Result<()> 
     let strings = arguments.strings();
     let mut lent = strings.lend(&mut room, arguments.number(), arguments.finger());
     let answer = step(setup, neck, &mut lent, arguments.forces());
-    print_step(rt, answer, &lent)?;
-    strings.print(rt, &lent)
+    print_step(rt, answer, &lent);
+    strings.print(rt, &lent);
 }
 
 // A call of a booked step: setup, heights, stiffness, first, second, contact, turn, finger, forces, book.
-pub fn answer_step_booked(rt: &impl Print, mut arguments: Arguments) -> io::Result<()> {
+pub fn answer_step_booked(rt: &impl Print, mut arguments: Arguments) {
     let mut neck_room = NeckRoom::new();
     let mut room = StringsRoom::new();
     let setup = arguments.setup();
@@ -69,15 +67,15 @@ pub fn answer_step_booked(rt: &impl Print, mut arguments: Arguments) -> io::Resu
     let forces = arguments.forces();
     let mut book = arguments.book();
     let answer = step_booked(setup, neck, &mut lent, forces, &mut book);
-    print_step(rt, answer, &lent)?;
+    print_step(rt, answer, &lent);
     if answer.is_ok() {
-        printing::book(rt, book)?;
+        printing::book(rt, book);
     }
-    strings.print(rt, &lent)
+    strings.print(rt, &lent);
 }
 
 // A call of a block: setup, heights, stiffness, first, second, contact, turn, finger, forces, samples.
-pub fn answer_block(rt: &impl Print, mut arguments: Arguments) -> io::Result<()> {
+pub fn answer_block(rt: &impl Print, mut arguments: Arguments) {
     let mut neck_room = NeckRoom::new();
     let mut room = StringsRoom::new();
     let mut forces_room = [0; MOST];
@@ -90,10 +88,12 @@ pub fn answer_block(rt: &impl Print, mut arguments: Arguments) -> io::Result<()>
     let samples_list = arguments.list();
     let samples = samples_list.read(&mut samples_room);
     let played = play_block(setup, neck, &mut lent, forces, samples);
-    print!(rt; "count {} refusal ", played.count)?;
-    report::number(rt, played.stopped)?;
-    report::turn_and_finger(rt, lent.turn, lent.finger)?;
-    strings.print(rt, &lent)?;
-    report::label(rt, samples_list.label)?;
-    printing::samples(rt, samples)
+    printing::text(rt, b"count ");
+    let _ = print!(rt; "{}", played.count);
+    printing::text(rt, b" refusal ");
+    report::number(rt, played.stopped);
+    report::turn_and_finger(rt, lent.turn, lent.finger);
+    strings.print(rt, &lent);
+    report::label(rt, samples_list.label);
+    printing::samples(rt, samples);
 }

@@ -1,25 +1,22 @@
 // Calls that read a string: the newest one, and a place of it.
 use crate::call::Arguments;
-use crate::report;
 use crate::room::MOST;
-use printing::{Bits, Listed};
-use std::io;
+use printing::Bits;
 use voice::{Reading, newest, read_place};
 
 // A call of the newest string: first, second, turn.
-pub fn answer_newest(rt: &impl Print, mut arguments: Arguments) -> io::Result<()> {
+pub fn answer_newest(rt: &impl Print, mut arguments: Arguments) {
     let mut first_room = [0; MOST];
     let mut second_room = [0; MOST];
     let first = arguments.list().read(&mut first_room);
     let second = arguments.list().read(&mut second_room);
-    print!(rt;
-        "string{}",
-        Listed(newest(first, second, arguments.number()))
-    )
+    let string = newest(first, second, arguments.number());
+    printing::text(rt, b"string");
+    printing::list(rt, string);
 }
 
 // A call of reading a place: setup, heights, first, second, turn, place.
-pub fn answer_reading(rt: &impl Print, mut arguments: Arguments) -> io::Result<()> {
+pub fn answer_reading(rt: &impl Print, mut arguments: Arguments) {
     let mut heights_room = [0; MOST];
     let mut first_room = [0; MOST];
     let mut second_room = [0; MOST];
@@ -30,10 +27,17 @@ pub fn answer_reading(rt: &impl Print, mut arguments: Arguments) -> io::Result<(
     let turn = arguments.number();
     let place = arguments.number();
     match read_place(setup, heights, first, second, turn, place) {
-        Ok(Reading::Free(displacement)) => print!(rt; "free {}", Bits(displacement)),
-        Ok(Reading::Pressed(displacement, depth)) => {
-            print!(rt; "pressed {} {}", Bits(displacement), Bits(depth))
+        Reading::Free(displacement) => {
+            printing::text(rt, b"free ");
+            let _ = print!(rt; "{}", Bits(displacement));
         }
-        Err(refusal) => report::number(rt, Some(refusal)),
+        Reading::Pressed(displacement, depth) => {
+            printing::text(rt, b"pressed ");
+            let _ = print!(rt; "{}", Bits(displacement));
+            let _ = print!(rt; " {}", Bits(depth));
+        }
+        Reading::Refused(number) => {
+            let _ = print!(rt; "{number}");
+        }
     }
 }

@@ -1,11 +1,11 @@
-// What the test programs print: numbers, the bits of floats, lists, a finger and a book.
+// What the test programs print: numbers, the bits of floats, lists, a finger and a book. What can't be written is left out, and what follows is still tried.
 #![tactic(auto)]
 
 ghost use Rattle.std.specs.Prelude.{◌≡◌, nat_abs};
 
 use model::{Book, Finger, Wide};
+use std::fmt;
 use std::fmt::{Display, Formatter};
-use std::{fmt, io};
 
 // The size of a number, without its sign.
 pub fn magnitude(x: i32) -> u32
@@ -39,55 +39,43 @@ impl Display for Bits<f64> {
     }
 }
 
-// A list: each element behind a space.
-#[derive(Drop)]
-pub struct Listed<'a, T>(pub &'a [T]);
+// A text as it is, with no format.
+pub fn text(rt: &impl Print, text: &[u8]) {
+    let _ = rt.write_all(text);
+}
 
-impl<T: Display> Display for Listed<'_, T> {
-    fn fmt<W: fmt::Write>(&self, f: &mut Formatter<W>) -> fmt::Result {
-        for element in self.0 {
-            write!(f, " {element}")?;
-        }
-        Ok(())
+// A list: each element behind a space, in a print of its own, so that one that fails loses no other.
+pub fn list<T: Display>(rt: &impl Print, numbers: &[T]) {
+    for number in numbers {
+        let _ = print!(rt; " {number}");
     }
 }
 
 // Samples by their bits, each behind a space.
-pub fn samples(rt: &impl Print, samples: &[f32]) -> io::Result<()> {
+pub fn samples(rt: &impl Print, samples: &[f32]) {
     for sample in samples {
-        print!(rt; " {}", Bits(*sample))?;
+        let _ = print!(rt; " {}", Bits(*sample));
     }
-    Ok(())
 }
 
 // A number of 128 bits by its words, in hexadecimal, each behind a space, the high one first.
-#[derive(Drop)]
-struct Words(Wide);
-
-impl Display for Words {
-    fn fmt<W: fmt::Write>(&self, f: &mut Formatter<W>) -> fmt::Result {
-        let high = self.0.high.cast_unsigned();
-        let low = self.0.low;
-        write!(f, " {high:016x} {low:016x}")
-    }
+fn words(rt: &impl Print, number: Wide) {
+    let _ = print!(rt; " {:016x}", number.high.cast_unsigned());
+    let _ = print!(rt; " {:016x}", number.low);
 }
 
 // A finger: its newer height, older height and contact variable.
-pub fn finger(rt: &impl Print, finger: Finger) -> io::Result<()> {
-    print!(rt;
-        " finger {} {} {}",
-        finger.newer, finger.older, finger.contact
-    )
+pub fn finger(rt: &impl Print, finger: Finger) {
+    text(rt, b" finger");
+    list(rt, &[finger.newer, finger.older, finger.contact]);
 }
 
 // A book: the words of its four columns, and its count.
-pub fn book(rt: &impl Print, book: Book) -> io::Result<()> {
-    print!(rt;
-        " book{}{}{}{} {}",
-        Words(book.stored),
-        Words(book.work),
-        Words(book.loss),
-        Words(book.rounding),
-        book.count
-    )
+pub fn book(rt: &impl Print, book: Book) {
+    text(rt, b" book");
+    words(rt, book.stored);
+    words(rt, book.work);
+    words(rt, book.loss);
+    words(rt, book.rounding);
+    let _ = print!(rt; " {}", book.count);
 }

@@ -1,9 +1,8 @@
 // What is drawn for a run: its setup, the board and the frets of its neck, the finger's heights at a start, the forces of its frames, and the
 // tensions and places that it changes to.
-ghost use Rattle.std.specs.Prelude.{◌≡◌, ◌<◌, ◌≤◌, length, vec_len, IfOk};
+ghost use Rattle.std.specs.Prelude.{◌≡◌, ◌<◌, ◌≤◌, length};
 
 use crate::generator::{Generator, multiple};
-use std::alloc::{AllocError, Global};
 use voice::{FingerSetup, Setup};
 
 // How large forces are at most, and what they are multiples of.
@@ -64,18 +63,19 @@ impl Generator {
         }
     }
 
-    // Increasing places below `segments`, about one in as many as are drawn, the first 24 of them.
-    pub fn frets(&mut self, alloc: Global, segments: u32) -> Result<Vec<u32>, AllocError>
-        ensures { IfOk result (λ places. vec_len places ≤ 24) }
+    // Increasing places below `segments`, about one in as many as are drawn, as far as there is room for; answers how many.
+    pub fn frets(&mut self, segments: u32, places: &mut [u32]) -> usize
+        ensures { result ≤ length places.new }
     {
         let spacing = self.draw(32);
-        let mut places = Vec::new(alloc);
+        let mut count = 0;
         for place in 1..segments {
-            if self.one_in(spacing + 1) && places.len() < 24 {
-                places.push(place)?;
+            if self.one_in(spacing + 1) && count < places.len() {
+                places[count] = place;
+                count += 1;
             }
         }
-        Ok(places)
+        count
     }
 
     // The finger's height before: the same, or in a quarter of the draws above, or in a quarter anywhere.

@@ -12,8 +12,7 @@ mod report;
 mod state;
 
 use generator::Generator;
-use state::State;
-use std::io;
+use state::{State, points};
 use voice::{Neck, Plan, Refusal, lay_neck};
 
 impl State {
@@ -52,48 +51,51 @@ impl State {
 }
 
 // The stretches of a run, from a fresh start; in a quarter of the draws one is preceded by another.
-fn stretches(rt: &impl Print, run: u32, neck: Neck, mut state: State) -> io::Result<()> {
+fn stretches(rt: &impl Print, run: u32, neck: Neck, mut state: State) {
     state.start();
     for i in 0..21 {
         state.start_at_times(i);
         state.stretch(neck);
-        report::stretch(rt, run, i, &state)?;
+        report::stretch(rt, run, i, &state);
     }
-    Ok(())
 }
 
 // A run on a string of so many segments, with this seed: lays a neck over a drawn board, and plays.
-fn run(rt: &(impl Print + AllocGlobal), seed: u32, segments: u32) -> io::Result<()>
+fn run(rt: &impl Print, seed: u32, segments: u32)
     requires { 1 < segments }
 {
-    let alloc = rt.alloc();
-    let points = segments as usize - 1;
+    let points = points(segments);
     let mut generator = Generator::new(seed);
     let setup = generator.setup(segments);
     let depth = generator.some(524288);
-    let mut board = vec![in alloc; 0; points]?;
-    generator.board(depth, &mut board);
-    let frets = generator.frets(alloc, segments)?;
+    let mut board = [0; 127];
+    generator.board(depth, &mut board[..points]);
+    let mut places = [0; 24];
+    let frets = generator.frets(segments, &mut places);
     let plan = Plan {
-        board: &board,
-        frets: &frets,
+        board: &board[..points],
+        frets: &places[..frets],
         tip: -(generator.draw(depth + 1) as i32),
         board_stiffness: generator.evenly_or_some(65535) as u16,
         fret_stiffness: generator.evenly_or_some(65535) as u16,
     };
-    let mut heights = vec![in alloc; 0; points]?;
-    let mut stiffness = vec![in alloc; 0; points]?;
-    let _ = lay_neck(setup, plan, &mut heights, &mut stiffness);
+    let mut heights = [0; 127];
+    let mut stiffness = [0; 127];
+    let _ = lay_neck(
+        setup,
+        plan,
+        &mut heights[..points],
+        &mut stiffness[..points],
+    );
     let neck = Neck {
-        heights: &heights,
-        stiffness: &stiffness,
+        heights: &heights[..points],
+        stiffness: &stiffness[..points],
     };
-    stretches(rt, seed, neck, State::new(alloc, generator, setup, points)?)
+    stretches(rt, seed, neck, State::new(generator, setup));
 }
 
-fn main(rt: HostRuntime) -> io::Result<()> {
+fn main(rt: HostRuntime) {
     for i in 0..48 {
-        run(&rt, i + 1, 2 + i * 126 / 47)?;
+        run(&rt, i + 1, 2 + i * 126 / 47);
     }
-    Ok(())
 }

@@ -106,9 +106,9 @@ impl State {
         bend_booked(
             self.setup,
             tension,
-            &self.strings.first,
-            &self.strings.second,
-            &self.strings.contact,
+            self.strings.first(),
+            self.strings.second(),
+            self.strings.contact(),
             self.strings.turn,
             self.strings.finger,
             &mut self.book,

@@ -1,7 +1,5 @@
 // The line that is printed after each stretch.
-use crate::state::State;
-use printing::Listed;
-use std::io;
+use crate::state::{State, Strings};
 
 // The sum of numbers.
 fn sum(numbers: &[i32]) -> i64 {
@@ -10,24 +8,28 @@ fn sum(numbers: &[i32]) -> i64 {
         .fold(0, |sum: i64, number| sum.wrapping_add(i64::from(*number)))
 }
 
-pub fn stretch(rt: &impl Print, run: u32, stretch: u32, state: &State) -> io::Result<()> {
-    print!(rt;
-        "run {run} stretch {stretch} steps {} refused{} tension {} place {}",
-        state.steps,
-        Listed(&state.refused),
-        state.setup.tension,
-        state.setup.finger.place
-    )?;
-    print!(rt;
-        " strings {} {} contact {}",
-        sum(&state.strings.first),
-        sum(&state.strings.second),
-        sum(&state.strings.contact)
-    )?;
-    printing::finger(rt, state.strings.finger)?;
-    print!(rt; " turn {}", state.strings.turn)?;
-    printing::book(rt, state.book)?;
-    print!(rt; " samples")?;
-    printing::samples(rt, &state.samples[126..])?;
-    println!(rt; " checksum {:08x}", state.checksum.sum)
+// The sums of strings and contact variables, and the finger.
+fn strings(rt: &impl Print, strings: &Strings) {
+    printing::text(rt, b" strings");
+    printing::list(rt, &[sum(strings.first()), sum(strings.second())]);
+    let _ = print!(rt; " contact {}", sum(strings.contact()));
+    printing::finger(rt, strings.finger);
+}
+
+// A print that fails is let go: what follows is still printed.
+pub fn stretch(rt: &impl Print, run: u32, stretch: u32, state: &State) {
+    let _ = print!(rt; "run {run}");
+    let _ = print!(rt; " stretch {stretch}");
+    let _ = print!(rt; " steps {}", state.steps);
+    printing::text(rt, b" refused");
+    printing::list(rt, &state.refused);
+    let _ = print!(rt; " tension {}", state.setup.tension);
+    let _ = print!(rt; " place {}", state.setup.finger.place);
+    strings(rt, &state.strings);
+    let _ = print!(rt; " turn {}", state.strings.turn);
+    printing::book(rt, state.book);
+    printing::text(rt, b" samples");
+    printing::samples(rt, &state.samples[126..]);
+    let _ = print!(rt; " checksum {:08x}", state.checksum.sum);
+    let _ = println!(rt);
 }

@@ -1,33 +1,55 @@
 // How far a run has come: what the voice keeps between two calls, the generator, what was counted, and the checksum.
+ghost use Rattle.std.specs.Prelude.{◌≤◌};
+
 use crate::checksum::Checksum;
 use crate::generator::Generator;
-use std::alloc::{AllocError, Global};
 use voice::{Book, Finger, Lent, Refusal, Setup};
 
-// What is lent to the voice.
-#[derive(Drop)]
+// How many points a string has; 127 for one that is too long.
+pub fn points(segments: u32) -> usize
+    ensures { result ≤ 127 }
+{
+    segments.saturating_sub(1).min(127) as usize
+}
+
+// What is lent to the voice. A string of fewer than 127 points has them in front.
+#[derive(Clone, Copy)]
 pub struct Strings {
-    pub first: Vec<i32>,
-    pub second: Vec<i32>,
-    pub contact: Vec<i32>,
+    first: [i32; 127],
+    second: [i32; 127],
+    contact: [i32; 127],
+    segments: u32,
     pub turn: u32,
     pub finger: Finger,
 }
 
 impl Strings {
     pub fn lend(&mut self) -> Lent<'_> {
+        let points = points(self.segments);
         let turn = self.turn;
         let finger = self.finger;
         let first = &mut self.first;
         let second = &mut self.second;
         let contact = &mut self.contact;
         Lent {
-            first: first.as_mut_slice(),
-            second: second.as_mut_slice(),
-            contact: contact.as_mut_slice(),
+            first: &mut first[..points],
+            second: &mut second[..points],
+            contact: &mut contact[..points],
             turn,
             finger,
         }
+    }
+
+    pub fn first(&self) -> &[i32] {
+        &self.first[..points(self.segments)]
+    }
+
+    pub fn second(&self) -> &[i32] {
+        &self.second[..points(self.segments)]
+    }
+
+    pub fn contact(&self) -> &[i32] {
+        &self.contact[..points(self.segments)]
     }
 }
 
@@ -41,7 +63,7 @@ pub const COUNTED: [Refusal; 6] = [
     Refusal::NewContact,
 ];
 
-#[derive(Drop)]
+#[derive(Clone, Copy)]
 pub struct State {
     pub generator: Generator,
     pub setup: Setup, // the newest
@@ -57,19 +79,15 @@ pub struct State {
 
 impl State {
     // Nothing yet.
-    pub fn new(
-        alloc: Global,
-        generator: Generator,
-        setup: Setup,
-        points: usize,
-    ) -> Result<State, AllocError> {
-        Ok(State {
+    pub fn new(generator: Generator, setup: Setup) -> State {
+        State {
             generator,
             setup,
             strings: Strings {
-                first: vec![in alloc; 0; points]?,
-                second: vec![in alloc; 0; points]?,
-                contact: vec![in alloc; 0; points]?,
+                first: [0; 127],
+                second: [0; 127],
+                contact: [0; 127],
+                segments: setup.segments,
                 turn: 0,
                 finger: Finger::default(),
             },
@@ -80,7 +98,7 @@ impl State {
             refused: [0; 6],
             refusal: None,
             checksum: Checksum::default(),
-        })
+        }
     }
 
     // Notes that a call was refused, or that it was not.
@@ -99,9 +117,9 @@ impl State {
         self.checksum.word(self.strings.turn);
         self.checksum.book(self.book);
         self.checksum.finger(self.strings.finger);
-        self.checksum.numbers(&self.strings.first);
-        self.checksum.numbers(&self.strings.second);
-        self.checksum.numbers(&self.strings.contact);
+        self.checksum.numbers(self.strings.first());
+        self.checksum.numbers(self.strings.second());
+        self.checksum.numbers(self.strings.contact());
         self.checksum.samples(&self.samples);
     }
 }
