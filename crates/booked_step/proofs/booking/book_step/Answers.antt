@@ -32,8 +32,8 @@ unfolding work_of force_ok displacement_ok
 work-size s F w w' h f g k k' =
     work-within (inside-within 1073741824 F.pluck f) (inside-within 1073741824 F.finger g) (change-within h (e s)) (inside-within 1048576 w k ⟨-⟩ inside-within 1048576 w' k')
 
-loss-size : {s : Setup} {x : State} {v : List ℤ} {z : ℤ} → Held s x → Strings x.newer v → z within 2 ^ 60 → (moving_loss s (minus x.newer v) +ℤ z) within 2 ^ 64
-loss-size h a r = wide (moving-size (setup-facts _ h.setup) a ⟨+⟩ r) tt
+loss-size : {s : Setup} {x : State} {v : List ℤ} {z t y : ℤ} → Held s x → Strings x.newer v → z within 2 ^ 60 → t ≡ z → y ≡ moving_loss s (minus x.newer v) +ℤ t → y within 2 ^ 64
+loss-size h a r e q = rw (q, e) (wide (moving-size (setup-facts _ h.setup) a ⟨+⟩ r) tt)
 
 pub with_step-requires : goal.with_step-requires
 with_step-requires c =
@@ -46,7 +46,7 @@ with_step-requires c =
         before = h.3;
         after = rw c.stored_energy.ensures (energy-size h.0);
         work = rw (work ∙ work_is c.args.setup F _ _ _ _ h.0.range.height h.7 c.step_work.ensures) (work-size c.args.setup F _ _ h.2 h.5 h.6 h.0.range.height h.7);
-        loss = rw c.step_loss.ensures (rw released (loss-size h.0 h.2 h.4));
+        loss = loss-size h.0 h.2 h.4 released c.step_loss.ensures;
       },
       h.8,
       count_room c.args.book h.9 low,

@@ -1,24 +1,26 @@
 -- `settle_points` meets its contract.
-use mathlib.Core.Path.{refl, ◌∙◌, ap}
-use mathlib.Core.List.{List}
+use mathlib.Core.Path.{◌≡◌, refl, ◌∙◌, ap}
+use mathlib.Core.List.{List, [], ◌∷◌}
 use Prim.Native.Nat.{ℕ, suc, ◌<◌}
 use native.Mathlib.Numerals.{add-one}
 use native.Mathlib.Omega.{arith}
 use borrow.Author.Rules.{rules}
-use lib.IntN.{ℤ}
+use lib.IntN.{ℤ, pos}
 use lib.ListN.{length}
+use lib.Signed.{◌≤ℤ◌}
 use mir.Syntax.{w32}
 use mir.Val.{SFits}
 use mir.Facts.{to_z-of_z}
 use Rattle.integers.specs.Filled.{filled_more, filled-first}
-use Rattle.integers.specs.Machine.{∅, ◌▹◌}
-use Rattle.model.specs.Setup.{points}
+use Rattle.integers.specs.Machine.{Within, ∅, ◌▹◌}
+use Rattle.model.specs.Setup.{points, setup_rules}
 use Rattle.model.specs.declared.Setup.{Setup}
+use Rattle.promises.specs.Promises.{Passed}
 use Rattle.laws.specs.LastMoves.{last_move, last_contact}
 use Rattle.contact.specs.Contacts.{kept_contacts, gradients_in}
 use Rattle.motion.specs.AtPoint.{force-read, side-read, gradient-read, variable-read}
 use Rattle.motion.specs.InRange.{most-points, kept-size, side-within, gradient-low, force-ok}
-use Rattle.motion.specs.MoveRanges.{PointRanges}
+use Rattle.motion.specs.MoveRanges.{PointRanges, point_sizes}
 use Rattle.motion.proofs.points.settle_points.Goals as goal
 use Rattle.motion.proofs.points.settle_points.Goals.{After-free_side-side, After-struct_told-in-loop-i-1}
 
@@ -39,6 +41,11 @@ free_side-side-requires c =
     let l = point r c.loop-i-test.true in
     (r.strings, c.requires.1, rw (force-read r (add-one c.loop-i.i) c.force_at-force.ensures) (force-ok c.args.pluck _ r.force), l)
 
+-- what is asked of the numbers as they are read, by what they are
+asked : (s : Setup) {x g y x' g' y' : ℤ} → x ≡ x' → g ≡ g' → y ≡ y' → Passed (setup_rules s) × Within (x' ∷ g' ∷ y' ∷ []) point_sizes × (pos 0 ≤ℤ g')
+    → Passed (setup_rules s) × Within (x ∷ g ∷ y ∷ []) point_sizes × (pos 0 ≤ℤ g)
+asked s e f q h = rw (e, f, q) h
+
 pub settle_point-point-requires : goal.settle_point-point-requires
 settle_point-point-requires c =
     let r = c.requires.0 in
@@ -46,7 +53,7 @@ settle_point-point-requires c =
     let k = suc c.loop-i.i in
     let u = c.args.state.newer.now in
     let G = gradients_in (points c.args.setup) c.args.gradients.now in
-    rw (side-read r refl (force-read r (add-one c.loop-i.i) c.force_at-force.ensures) c.free_side-side.ensures, gradient-read c.args.gradients.now refl l (r.gradients k), variable-read r refl c.kept_at-kept.ensures) (
+    asked c.args.setup (side-read r refl (force-read r (add-one c.loop-i.i) c.force_at-force.ensures) c.free_side-side.ensures) (gradient-read c.args.gradients.now refl l (r.gradients k)) (variable-read r refl c.kept_at-kept.ensures) (
       r.strings.setup,
       side-within r.strings c.args.pluck r.force (kept_contacts c.args.heights.now u c.args.state.contact.now) G k ▹ r.gradients k ▹ kept-size r k ▹ ∅,
       gradient-low c.args.gradients.now c.loop-i.i l,
