@@ -11,7 +11,7 @@ pub fn number(rt: &impl Print, refusal: Option<Refusal>) {
 pub fn turn_and_finger(rt: &impl Print, turn: u32, finger: Finger) {
     printing::text(rt, b" turn ");
     let _ = print!(rt; "{turn}");
-    printing::finger(rt, finger);
+    printing::finger_best_effort(rt, finger);
 }
 
 // The label of a list, behind a space: a word is printed up to its first byte that is no larger than a space.

@@ -67,6 +67,6 @@ pub fn answer_bend_booked(rt: &impl Print, mut arguments: Arguments) {
     );
     print_change(rt, answer);
     if answer.is_ok() {
-        printing::book(rt, book);
+        printing::book_best_effort(rt, book);
     }
 }

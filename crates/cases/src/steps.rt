@@ -12,7 +12,7 @@ fn print_step(rt: &impl Print, answer: Result<Frame, Refusal>, lent: &Lent) {
     if let Ok(frame) = answer {
         report::turn_and_finger(rt, lent.turn, lent.finger);
         printing::text(rt, b" frame");
-        printing::samples(rt, &[frame.bridge, frame.neck]);
+        printing::samples_best_effort(rt, &[frame.bridge, frame.neck]);
     }
 }
 
@@ -38,7 +38,7 @@ pub fn answer_start(rt: &impl Print, mut arguments: Arguments) {
     report::number(rt, answer.err());
     if let Ok(started) = answer {
         report::turn_and_finger(rt, started.turn, started.finger);
-        printing::book(rt, started.book);
+        printing::book_best_effort(rt, started.book);
     }
     strings.print(rt, &lent);
 }
@@ -69,7 +69,7 @@ pub fn answer_step_booked(rt: &impl Print, mut arguments: Arguments) {
     let answer = step_booked(setup, neck, &mut lent, forces, &mut book);
     print_step(rt, answer, &lent);
     if answer.is_ok() {
-        printing::book(rt, book);
+        printing::book_best_effort(rt, book);
     }
     strings.print(rt, &lent);
 }
@@ -95,5 +95,5 @@ pub fn answer_block(rt: &impl Print, mut arguments: Arguments) {
     report::turn_and_finger(rt, lent.turn, lent.finger);
     strings.print(rt, &lent);
     report::label(rt, samples_list.label);
-    printing::samples(rt, samples);
+    printing::samples_best_effort(rt, samples);
 }

@@ -13,7 +13,7 @@ fn strings(rt: &impl Print, strings: &Strings) {
     printing::text(rt, b" strings");
     printing::list(rt, &[sum(strings.first()), sum(strings.second())]);
     let _ = print!(rt; " contact {}", sum(strings.contact()));
-    printing::finger(rt, strings.finger);
+    printing::finger_best_effort(rt, strings.finger);
 }
 
 // A print that fails is let go: what follows is still printed.
@@ -27,9 +27,9 @@ pub fn stretch(rt: &impl Print, run: u32, stretch: u32, state: &State) {
     let _ = print!(rt; " place {}", state.setup.finger.place);
     strings(rt, &state.strings);
     let _ = print!(rt; " turn {}", state.strings.turn);
-    printing::book(rt, state.book);
+    printing::book_best_effort(rt, state.book);
     printing::text(rt, b" samples");
-    printing::samples(rt, &state.samples[126..]);
+    printing::samples_best_effort(rt, &state.samples[126..]);
     let _ = print!(rt; " checksum {:08x}", state.checksum.sum);
     let _ = println!(rt);
 }
