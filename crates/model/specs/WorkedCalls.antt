@@ -6,7 +6,7 @@ use Rattle.std.specs.Float.{nan, fin}
 use Rattle.std.specs.Float.Ieee.{round}
 use Rattle.integers.specs.Sum.{sum}
 use Rattle.model.specs.Ranges.{between, inside, displacement_ok, contact_ok, force_ok, height_ok}
-use Rattle.model.specs.Refusal.{accepted, refused, first_of, answer_of}
+use Rattle.model.specs.Refusal.{accepted, refused, first_of, number, answer_of}
 use Rattle.model.specs.Setup.{setup_rules, place_ok, length_ok}
 use Rattle.model.specs.Differences.{plus, minus, times, D1, dot, E}
 use Rattle.model.specs.Gradient.{gradient, root, greatest}
@@ -144,4 +144,5 @@ answers-are :
     ≡ record { answer = accepted record { bridge = nan; neck = nan }; lent = one_point (pos 1) (pos 2) (pos 3) 0 (finger (pos 4) (pos 5) (pos 6)) })
     × (block_result record { count = 5; stopped = Some Refusal.NewDisplacement } (one_point (pos 1) (pos 2) (pos 3) 1 resting_finger) (nan ∷ []) ≡ record { count = 5; refusal = 13; lent = one_point (pos 1) (pos 2) (pos 3) 1 resting_finger; samples = nan ∷ [] })
     × (reading_result (Free nan) ≡ accepted (nan ∷ [])) × (reading_result (Pressed nan (over false 1)) ≡ accepted (nan ∷ over false 1 ∷ [])) × (reading_result (Refused 7) ≡ refused 7)
-answers-are = (refl, refl, refl, refl, refl, refl, refl, refl, refl, refl, refl)
+    × (reading_result (Refused (number Refusal.Height)) ≡ refused 7) × (answer_of {A = Setup} (Err Refusal.Height) ≡ refused 7)
+answers-are = (refl, refl, refl, refl, refl, refl, refl, refl, refl, refl, refl, refl, refl)

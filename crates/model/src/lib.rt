@@ -135,7 +135,7 @@ pub struct Played {
 }
 
 // 01, 'Reading a place': a place's newest displacement; where the string is pressed, its depth too, both divided by 1,048,576; or the number
-// of the refusal. The case with the number is 01's form for a reading, where every other operation answers a `Result`.
+// of the refusal. The case with the number is 01's form for a reading; the other operations that refuse answer a `Result`, and a block `Played`.
 #[derive(Clone, Copy)]
 pub enum Reading {
     Free(f64),
